@@ -1,0 +1,16 @@
+pub mod Bytes
+pub mod Layout
+pub mod Shelf
+pub mod Sessions
+pub mod Answers
+pub mod Forms
+pub mod Select
+pub mod Access
+pub mod Binary
+pub mod Records
+pub mod Seek
+pub mod Increase
+pub mod Marks
+pub mod Codes
+pub mod Play
+pub mod Images
