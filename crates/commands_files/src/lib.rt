@@ -1,0 +1,5 @@
+pub mod binary;
+pub mod increase;
+pub mod marks;
+pub mod records;
+pub mod seek;

@@ -1,0 +1,4 @@
+pub mod Past
+pub mod Loops
+pub mod Heading
+pub mod Told

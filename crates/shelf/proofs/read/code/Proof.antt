@@ -1,0 +1,51 @@
+-- `shelf::read::code` meets its contract: each field is the byte at its place.
+use borrow.Author.Needs.{needs}
+use Rattle.card.specs.Layout.{codeEntry, code}
+use Rattle.shelf.proofs.read.code.Statement.{statement}
+use Rattle.shelf.proofs.read.code.Tie as tie
+
+mul-at : tie.Need-mul-at
+mul-at c = search needs
+
+add-at : tie.Need-add-at
+add-at c = search needs
+
+byte-at-requires : tie.Need-byte-at-requires
+byte-at-requires c κs = search needs
+
+add-byte-at : tie.Need-add-byte-at
+add-byte-at c = search needs
+
+byte-at-requires-2 : tie.Need-byte-at-requires-2
+byte-at-requires-2 c κs = search needs
+
+add-byte-at-2 : tie.Need-add-byte-at-2
+add-byte-at-2 c = search needs
+
+byte-at-requires-3 : tie.Need-byte-at-requires-3
+byte-at-requires-3 c κs = search needs
+
+add-byte-at-3 : tie.Need-add-byte-at-3
+add-byte-at-3 c = search needs
+
+byte-at-requires-4 : tie.Need-byte-at-requires-4
+byte-at-requires-4 c κs = search needs
+
+returns : tie.Need-returns
+unfolding code codeEntry
+returns c = cc
+
+pub code-spec : {M : Type 1} → statement M
+code-spec =
+    tie.close
+    (tie.spec
+    mul-at
+    add-at
+    byte-at-requires
+    add-byte-at
+    byte-at-requires-2
+    add-byte-at-2
+    byte-at-requires-3
+    add-byte-at-3
+    byte-at-requires-4
+    returns)

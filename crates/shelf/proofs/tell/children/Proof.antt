@@ -1,0 +1,61 @@
+-- `shelf::tell::children` meets its contract: the invariant: found counts the children among the first c directories.
+use Prim.Native.Nat.{_≤_, _-_}
+use mathlib.Core.Path.{_≡_}
+use native.Mathlib.Omega.{arith}
+use borrow.Author.Needs.{needs}
+use Rattle.card.specs.Bytes.{howMany}
+use Rattle.card.specs.Layout.{directory}
+use Rattle.card.specs.Select.{child}
+use Rattle.shelf.proofs.Loops.{count-none, count-more, count-end}
+use Rattle.shelf.proofs.Told.{children-are}
+use Rattle.shelf.proofs.tell.children.Statement.{statement}
+use Rattle.shelf.proofs.tell.children.Tie as tie
+
+abbrev Inv-loop : tie.InvT-loop
+Inv-loop head i d n found₀ c₀ found c = (c ≤ n) × ((found ≤ c) × (found ≡ howMany c (λ k. child d k (directory head k))))
+
+abbrev μ-loop : tie.MeasureT-loop
+μ-loop head i d n found₀ c₀ found c = n - c
+
+loop-holds : tie.Need-loop-holds Inv-loop μ-loop
+loop-holds c = (search needs, (search needs, count-none _))
+
+directory-requires : tie.Need-directory-requires Inv-loop μ-loop
+directory-requires c κs = (c .before .before .before .pre, omega (arith, c .before .before .before .pre .directories))
+
+child-requires : tie.Need-child-requires Inv-loop μ-loop
+child-requires c κs = search needs
+
+bit-requires : tie.Need-bit-requires Inv-loop μ-loop
+bit-requires c κs = search needs
+
+add-found : tie.Need-add-found Inv-loop μ-loop
+add-found c = omega (arith, c .bit .ensures .1, c .before .before .before .before .before .before .pre .directories)
+
+add-c : tie.Need-add-c Inv-loop μ-loop
+add-c c = search needs
+
+loop-less : tie.Need-loop-less Inv-loop μ-loop
+loop-less c = search needs
+
+loop-again : tie.Need-loop-again Inv-loop μ-loop
+loop-again c = (omega arith, (omega (arith, c .bit .ensures .1), count-more _ _ _ _ (c .before .before .before .before .loop .inv .1 .1) (cc)))
+
+returns : tie.Need-returns Inv-loop μ-loop
+returns c = record { is = children-are _ _ (c .before .before .before .pre .is) _ _ (count-end _ _ (c .before .loop .c) _ (omega arith) (omega arith) (cc)); few = omega arith }
+
+pub children-spec : {M : Type 1} → statement M
+children-spec =
+    tie.close
+    (tie.spec
+    Inv-loop
+    μ-loop
+    loop-holds
+    directory-requires
+    child-requires
+    bit-requires
+    add-found
+    add-c
+    loop-less
+    loop-again
+    returns)

@@ -1,0 +1,61 @@
+-- `shelf::tell::members` meets its contract: the invariant: found counts the members among the first f files.
+use Prim.Native.Nat.{_≤_, _-_}
+use mathlib.Core.Path.{_≡_}
+use native.Mathlib.Omega.{arith}
+use borrow.Author.Needs.{needs}
+use Rattle.card.specs.Bytes.{howMany}
+use Rattle.card.specs.Layout.{file}
+use Rattle.card.specs.Select.{member}
+use Rattle.shelf.proofs.Loops.{count-none, count-more, count-end}
+use Rattle.shelf.proofs.Told.{members-are}
+use Rattle.shelf.proofs.tell.members.Statement.{statement}
+use Rattle.shelf.proofs.tell.members.Tie as tie
+
+abbrev Inv-loop : tie.InvT-loop
+Inv-loop head i d n found₀ f₀ found f = (f ≤ n) × ((found ≤ f) × (found ≡ howMany f (λ k. member d (file head k))))
+
+abbrev μ-loop : tie.MeasureT-loop
+μ-loop head i d n found₀ f₀ found f = n - f
+
+loop-holds : tie.Need-loop-holds Inv-loop μ-loop
+loop-holds c = (search needs, (search needs, count-none _))
+
+file-requires : tie.Need-file-requires Inv-loop μ-loop
+file-requires c κs = (c .before .before .before .pre, omega (arith, c .before .before .before .pre .files))
+
+member-requires : tie.Need-member-requires Inv-loop μ-loop
+member-requires c κs = search needs
+
+bit-requires : tie.Need-bit-requires Inv-loop μ-loop
+bit-requires c κs = search needs
+
+add-found : tie.Need-add-found Inv-loop μ-loop
+add-found c = omega (arith, c .bit .ensures .1, c .before .before .before .before .before .before .pre .files)
+
+add-f : tie.Need-add-f Inv-loop μ-loop
+add-f c = search needs
+
+loop-less : tie.Need-loop-less Inv-loop μ-loop
+loop-less c = search needs
+
+loop-again : tie.Need-loop-again Inv-loop μ-loop
+loop-again c = (omega arith, (omega (arith, c .bit .ensures .1), count-more _ _ _ _ (c .before .before .before .before .loop .inv .1 .1) (cc)))
+
+returns : tie.Need-returns Inv-loop μ-loop
+returns c = record { is = members-are _ _ (c .before .before .before .pre .is) _ _ (count-end _ _ (c .before .loop .f) _ (omega arith) (omega arith) (cc)); few = omega arith }
+
+pub members-spec : {M : Type 1} → statement M
+members-spec =
+    tie.close
+    (tie.spec
+    Inv-loop
+    μ-loop
+    loop-holds
+    file-requires
+    member-requires
+    bit-requires
+    add-found
+    add-f
+    loop-less
+    loop-again
+    returns)

@@ -1,0 +1,38 @@
+-- `shelf::check::codes_sound` meets its contract: one law, from what each call says.
+use Rattle.shelf_check.proofs.Sections.{codes-sound}
+use borrow.Author.Needs.{needs}
+use Rattle.shelf_check.proofs.check.codes_sound.Statement.{statement}
+use Rattle.shelf_check.proofs.check.codes_sound.Tie as tie
+use Rattle.shelf_check.proofs.check.codes_sound.Reads as reads
+use Rattle.shelf_check.proofs.check.codes_sound.Lts as lts
+use Rattle.shelf.proofs.read.code.Reads as code-reads
+use Rattle.shelf_check.proofs.rules.code_rules.Reads as code-rules-reads
+
+code-requires : tie.Need-code-requires
+code-requires c κs = search needs
+
+code-rules-requires : tie.Need-code-rules-requires
+code-rules-requires c κs = search needs
+
+code-requires-2 : tie.Need-code-requires-2
+code-requires-2 c κs = search needs
+
+code-rules-requires-2 : tie.Need-code-rules-requires-2
+code-rules-requires-2 c κs = search needs
+
+sub-result : tie.Need-sub-result
+sub-result c = search needs
+
+returns : tie.Need-returns
+returns c = codes-sound _ _ (c .before .before .before .before .before .before .before .pre .is) _ _ _ _ (c .before .before .before .before .before .code .ensures) (c .before .before .before .before .code-rules .ensures) (c .before .before .before .code2 .ensures) (c .before .before .code-rules2 .ensures)
+
+pub codes-sound-spec : {M : Type 1} → statement M
+codes-sound-spec =
+    tie.close
+    (tie.spec
+    code-requires
+    code-rules-requires
+    code-requires-2
+    code-rules-requires-2
+    sub-result
+    returns)

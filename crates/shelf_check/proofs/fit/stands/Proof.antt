@@ -1,0 +1,54 @@
+-- `shelf::fit::stands` meets its contract: a law for each way out.
+use Rattle.shelf_check.proofs.Fitting.{stands-nowhere, stands-astray, stands-on, stands-off}
+use borrow.Author.Needs.{needs}
+use Rattle.shelf_check.proofs.fit.stands.Statement.{statement}
+use Rattle.shelf_check.proofs.fit.stands.Tie as tie
+
+enum-told : tie.Need-enum-told
+enum-told c = search needs
+
+enum-told-2 : tie.Need-enum-told-2
+enum-told-2 c = search needs
+
+enum-told-3 : tie.Need-enum-told-3
+enum-told-3 c = search needs
+
+enum-known-c : tie.Need-enum-known-c
+enum-known-c c = search needs
+
+file-requires : tie.Need-file-requires
+file-requires c κs = search needs
+
+cast-result : tie.Need-cast-result
+cast-result c = search needs
+
+pointed-requires : tie.Need-pointed-requires
+pointed-requires c κs = search needs
+
+returns : tie.Need-returns
+returns c = stands-nowhere _ _ _ _ (c .before .before .enum-told .given .1) (c .enum-told2 .given .1)
+
+returns-2 : tie.Need-returns-2
+returns-2 c = stands-astray _ _ _ _ _ (c .before .before .enum-told .given .1) (c .enum-told3 .given .1)
+
+returns-3 : tie.Need-returns-3
+returns-3 c = stands-on _ _ _ _ _ _ (c .before .before .before .before .before .before .before .before .before .pre .is) (c .before .before .before .before .before .before .c .given .1) _ _ (c .before .before .before .if1 .taken) (c .before .before .file .ensures) (c .pointed .ensures)
+
+returns-4 : tie.Need-returns-4
+returns-4 c = stands-off _ _ _ _ _ _ (c .before .before .before .before .before .before .pre .is) (c .before .before .before .c .given .1) (c .if1 .left)
+
+pub stands-spec : {M : Type 1} → statement M
+stands-spec =
+    tie.close
+    (tie.spec
+    enum-told
+    enum-told-2
+    enum-told-3
+    enum-known-c
+    file-requires
+    cast-result
+    pointed-requires
+    returns
+    returns-2
+    returns-3
+    returns-4)
