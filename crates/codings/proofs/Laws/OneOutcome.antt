@@ -1,0 +1,1 @@
+-- Any two outcomes that a promise admits are equal.

@@ -1,0 +1,1 @@
+-- All round trips.

@@ -1,0 +1,12 @@
+pub mod Answers
+pub mod Halves
+pub mod Fields
+pub mod Network
+pub mod Services
+pub mod Admin
+pub mod Spn
+pub mod Iccid
+pub mod Imsi
+pub mod ImsiByCount
+pub mod RoundTrips
+pub mod Examples
