@@ -19,6 +19,9 @@ pub mod IccidTrip
 pub mod Imsi
 pub mod ImsiTrip
 pub mod ImsiByCount
+pub mod Exact
+pub mod ServicesExact
+pub mod AdminExact
 pub mod Examples
 pub mod RoundTrips
 pub mod OneOutcome

@@ -10,3 +10,4 @@ pub mod Imsi
 pub mod ImsiByCount
 pub mod RoundTrips
 pub mod Examples
+pub mod OneOutcome
