@@ -1,8 +1,3 @@
-pub mod Table
-pub mod Writing
-pub mod Halves
-pub mod Fields
-pub mod Text
 pub mod Answers
 pub mod Bytes
 pub mod Network
@@ -13,7 +8,6 @@ pub mod Admin
 pub mod AdminTrip
 pub mod Spn
 pub mod SpnTrip
-pub mod Digits
 pub mod Iccid
 pub mod IccidTrip
 pub mod Imsi

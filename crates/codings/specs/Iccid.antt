@@ -6,8 +6,8 @@ use mathlib.Core.Bool.{Bool, _&&_}
 use lib.Dec.{eqb, ltb, leb}
 use lib.ListN.{length, getD}
 use Rattle.codings.specs.Answers.{number, Outcome, judge}
-use Rattle.codings.specs.Halves.{halves, joined}
-use Rattle.codings.specs.Fields.{padded, text, closed, within}
+use Rattle.fields.specs.Halves.{halves, joined}
+use Rattle.fields.specs.Text.{padded, text, closed, within}
 use Rattle.codings.specs.declared.iccid.Iccid.{Iccid}
 
 -- the first half is a digit, and after the digits all is F

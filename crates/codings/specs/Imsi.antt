@@ -7,8 +7,8 @@ use mathlib.Core.Bool.{Bool, true, false, _&&_, _||_}
 use lib.Dec.{eqb, leb}
 use lib.ListN.{length, getD, take, drop}
 use Rattle.codings.specs.Answers.{number, Outcome, judge}
-use Rattle.codings.specs.Halves.{halves, joined}
-use Rattle.codings.specs.Fields.{filled, padded, within}
+use Rattle.fields.specs.Halves.{halves, joined}
+use Rattle.fields.specs.Text.{filled, padded, within}
 use Rattle.codings.specs.declared.imsi.Imsi.{Imsi}
 
 -- the halves of the bytes that the length counts, low half first, and the bytes after them

@@ -7,8 +7,8 @@ use mathlib.Core.Bool.{Bool, _&&_}
 use lib.Dec.{eqb, leb}
 use lib.ListN.{length, getD, drop}
 use Rattle.codings.specs.Answers.{Outcome, judge}
-use Rattle.codings.specs.Halves.{halves}
-use Rattle.codings.specs.Fields.{text, closed}
+use Rattle.fields.specs.Halves.{halves}
+use Rattle.fields.specs.Text.{text, closed}
 use Rattle.codings.specs.Imsi as imsi
 use Rattle.codings.specs.Imsi.{mark, size}
 

@@ -1,6 +1,4 @@
 pub mod Answers
-pub mod Halves
-pub mod Fields
 pub mod Network
 pub mod Services
 pub mod Admin

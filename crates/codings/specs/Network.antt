@@ -6,8 +6,8 @@ use mathlib.Core.Bool.{Bool, true, false, _&&_, _||_}
 use lib.Dec.{eqb, ltb}
 use lib.ListN.{length, getD, take, drop}
 use Rattle.codings.specs.Answers.{Outcome, judge}
-use Rattle.codings.specs.Halves.{halves, joined}
-use Rattle.codings.specs.Fields.{lead, filled}
+use Rattle.fields.specs.Halves.{halves, joined}
+use Rattle.fields.specs.Text.{lead, filled}
 use Rattle.codings.specs.declared.network.Plmn.{Plmn}
 use Rattle.codings.specs.declared.network.Plmn.the-variants.{Unused, Network}
 

@@ -6,7 +6,7 @@ use mathlib.Core.Bool.{Bool, true, false, _&&_}
 use lib.Dec.{eqb, ltb, leb}
 use lib.ListN.{length, getD, drop}
 use Rattle.codings.specs.Answers.{number, Outcome, judge}
-use Rattle.codings.specs.Fields.{padded, text, closed, within}
+use Rattle.fields.specs.Text.{padded, text, closed, within}
 use Rattle.codings.specs.declared.spn.Spn.{Spn}
 
 -- A value: the two bits as they stand, and the name.

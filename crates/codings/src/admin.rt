@@ -1,7 +1,7 @@
 // The administrative data: mode of operation and length of the MNC in the IMSI.
 use crate::Answer;
-use crate::halves::high;
-use crate::halves::low;
+use fields::halves::high;
+use fields::halves::low;
 ghost use mathlib.Core.Path.{_≡_};
 ghost use Rattle.codings.specs.Answers.{told};
 ghost use Rattle.codings.specs.Admin.{setting, isMode, twoOrThree, decode, encode};

@@ -1,9 +1,9 @@
 // The service provider's name.
 use crate::Answer;
-use crate::fields::closed;
-use crate::fields::lead;
-use crate::fields::place;
-use crate::fields::put_text;
+use fields::text::closed;
+use fields::text::lead;
+use fields::text::place;
+use fields::text::put_text;
 ghost use mathlib.Core.Path.{_≡_};
 ghost use mathlib.Core.List.{[]};
 ghost use mathlib.Core.Bool.{false};

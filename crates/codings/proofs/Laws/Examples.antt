@@ -1,8 +1,8 @@
 -- The worked examples hold, by computation.
 use mathlib.Core.Path.{refl}
 use Rattle.codings.specs.Answers.{judge}
-use Rattle.codings.specs.Halves.{halves, joined}
-use Rattle.codings.specs.Fields.{lead, filled, padded, text, closed, within}
+use Rattle.fields.specs.Halves.{halves, joined}
+use Rattle.fields.specs.Text.{lead, filled, padded, text, closed, within}
 use Rattle.codings.specs.Iccid as iccids
 use Rattle.codings.specs.Imsi as imsis
 use Rattle.codings.specs.Network as networks

@@ -7,13 +7,13 @@ use native.Mathlib.Omega.{arith}
 use borrow.Author.Tests.{eq-eqb, ne-eqb, lt-ltb, le-ltb, le-leb, lt-leb}
 use lib.ListN.{length, getD, replicate}
 use Rattle.codings.specs.Answers.{Outcome, outcome, done}
-use Rattle.codings.specs.Halves.{halves, joined, Halved}
-use Rattle.codings.specs.Fields.{lead, padded, placed, text, closed, within}
+use Rattle.fields.specs.Halves.{halves, joined, Halved}
+use Rattle.fields.specs.Text.{lead, padded, placed, text, closed, within}
 use Rattle.codings.specs.Iccid.{Shows, numbered, decode, writable, encode}
 use Rattle.codings.specs.declared.iccid.Iccid.{Iccid}
 use Rattle.codings.proofs.Laws.Answers.{wrong-length, wrong-value, right}
-use Rattle.codings.proofs.Laws.Fields.{padded-length}
-use Rattle.codings.proofs.Laws.Digits.{padded-small}
+use Rattle.fields.proofs.Laws.Fields.{padded-length}
+use Rattle.fields.proofs.Laws.Digits.{padded-small}
 
 moved : (r : Iccid) (o p : Outcome (List ℕ)) → o ≡ p → Shows r o → Shows r p
 moved r o p e s = rw (← e) s

@@ -8,15 +8,15 @@ use borrow.Author.Tests.{eq-eqb, eqb-true, lt-ltb, ltb-true, le-leb, leb-true}
 use lib.Dec.{eqb, ltb, leb}
 use lib.ListN.{length, getD}
 use Rattle.codings.specs.Answers.{done}
-use Rattle.codings.specs.Halves.{halves, joined}
-use Rattle.codings.specs.Fields.{lead, padded, text, closed, within}
+use Rattle.fields.specs.Halves.{halves, joined}
+use Rattle.fields.specs.Text.{lead, padded, text, closed, within}
 use Rattle.codings.specs.Iccid.{numbered, decode, writable, encode}
 use Rattle.codings.proofs.Laws.Answers.{right, was-done}
 use Rattle.codings.proofs.Laws.Bytes.{both}
-use Rattle.codings.proofs.Laws.Fields.{padded-length}
-use Rattle.codings.proofs.Laws.Halves.{halves-length, joined-length, joined-halves}
-use Rattle.codings.proofs.Laws.Digits.{halves-back, first-digit, some-lead}
-use Rattle.codings.proofs.Laws.Text.{lead-le, closed-padded, text-padded, text-length, text-within, padded-text}
+use Rattle.fields.proofs.Laws.Fields.{padded-length}
+use Rattle.fields.proofs.Laws.Halves.{halves-length, joined-length, joined-halves}
+use Rattle.fields.proofs.Laws.Digits.{halves-back, first-digit, some-lead}
+use Rattle.fields.proofs.Laws.Text.{lead-le, closed-padded, text-padded, text-length, text-within, padded-text}
 
 back : (t : List ℕ) → 1 ≤ length t → length t ≤ 20 → within 10 t ≡ true → decode (joined (padded 15 20 t)) ≡ done t
 unfolding decode numbered within

@@ -9,15 +9,15 @@ use lib.Dec.{eqb}
 use lib.ListN.{length, getD, take, drop, set, replicate, length-drop}
 use lib.Seq.{take-all}
 use Rattle.codings.specs.Answers.{Outcome, outcome, done}
-use Rattle.codings.specs.Halves.{halves, joined, Halved}
-use Rattle.codings.specs.Fields.{lead, padded, placed, text, closed, within}
+use Rattle.fields.specs.Halves.{halves, joined, Halved}
+use Rattle.fields.specs.Text.{lead, padded, placed, text, closed, within}
 use Rattle.codings.specs.Imsi.{Shows, mark, writable, encode}
 use Rattle.codings.specs.ImsiByCount.{digitsIn, numbered, decode}
 use Rattle.codings.specs.declared.imsi.Imsi.{Imsi}
 use Rattle.codings.proofs.Laws.Answers.{wrong-length, wrong-value, right}
-use Rattle.codings.proofs.Laws.Fields.{padded-length}
-use Rattle.codings.proofs.Laws.Halves.{halves-length}
-use Rattle.codings.proofs.Laws.Digits.{padded-small}
+use Rattle.fields.proofs.Laws.Fields.{padded-length}
+use Rattle.fields.proofs.Laws.Halves.{halves-length}
+use Rattle.fields.proofs.Laws.Digits.{padded-small}
 
 module _ (n : ℕ) where
   pub odd : n % 2 ≡ 1 → 9 ≡ mark n

@@ -9,19 +9,19 @@ use borrow.Author.Tests.{eq-eqb, eqb-true, le-leb, leb-true}
 use lib.Dec.{eqb, leb}
 use lib.ListN.{length, getD, take, drop, replicate, length-drop, length-append, take-append-drop}
 use lib.Seq.{take-all, take-suc, getD-drop, drop-cons, take-append-seam, length-take-le, getD-append-seam, append-snoc}
-use Rattle.codings.specs.Halves.{halves, joined}
-use Rattle.codings.specs.Fields.{filled, padded, within}
+use Rattle.fields.specs.Halves.{halves, joined}
+use Rattle.fields.specs.Text.{filled, padded, within}
 use Rattle.codings.specs.Answers.{Outcome, outcome, judge}
 use Rattle.codings.specs.Imsi as imsi
 use Rattle.codings.specs.Imsi.{Shows, mark, size, odd, even}
 use Rattle.codings.specs.ImsiByCount.{digitsIn, numbered, decode, ByCount}
 use Rattle.codings.specs.declared.imsi.Imsi.{Imsi}
 use Rattle.codings.proofs.Laws.Bytes.{both}
-use Rattle.codings.proofs.Laws.Fields.{filled-is}
+use Rattle.fields.proofs.Laws.Fields.{filled-is}
 use Rattle.codings.proofs.Laws.Imsi.{odd as is-odd, even as is-even}
 use Rattle.codings.proofs.Laws.ImsiTrip.{Told, told}
-use Rattle.codings.proofs.Laws.Text.{fills, lead-le, closed-padded, text-padded, text-length, text-within, padded-text, taken}
-use Rattle.codings.proofs.Laws.Halves.{halves-length, halves-append, halves-fill, halves-take, halves-drop, same-halves}
+use Rattle.fields.proofs.Laws.Text.{fills, lead-le, closed-padded, text-padded, text-length, text-within, padded-text, taken}
+use Rattle.fields.proofs.Laws.Halves.{halves-length, halves-append, halves-fill, halves-take, halves-drop, same-halves}
 
 -- two tests that follow from each other
 iff : (a b : Bool) → (a ≡ true → b ≡ true) → (b ≡ true → a ≡ true) → a ≡ b

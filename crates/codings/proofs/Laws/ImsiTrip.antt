@@ -9,17 +9,17 @@ use lib.Dec.{eqb, leb}
 use lib.ListN.{length, getD, drop, length-drop}
 use lib.Seq.{drop-cons}
 use Rattle.codings.specs.Answers.{done}
-use Rattle.codings.specs.Halves.{halves, joined}
-use Rattle.codings.specs.Fields.{padded, text, closed, within}
+use Rattle.fields.specs.Halves.{halves, joined}
+use Rattle.fields.specs.Text.{padded, text, closed, within}
 use Rattle.codings.specs.Imsi.{mark, size, writable, encode}
 use Rattle.codings.specs.ImsiByCount.{digitsIn, numbered, decode}
 use Rattle.codings.proofs.Laws.Answers.{right, was-done}
 use Rattle.codings.proofs.Laws.Bytes.{both}
-use Rattle.codings.proofs.Laws.Fields.{padded-length}
-use Rattle.codings.proofs.Laws.Halves.{halves-length, joined-length, joined-halves, halves-joined}
-use Rattle.codings.proofs.Laws.Digits.{padded-small}
+use Rattle.fields.proofs.Laws.Fields.{padded-length}
+use Rattle.fields.proofs.Laws.Halves.{halves-length, joined-length, joined-halves, halves-joined}
+use Rattle.fields.proofs.Laws.Digits.{padded-small}
 use Rattle.codings.proofs.Laws.Imsi.{mark-small}
-use Rattle.codings.proofs.Laws.Text.{lead-le, closed-padded, text-padded, text-length, text-within, padded-text}
+use Rattle.fields.proofs.Laws.Text.{lead-le, closed-padded, text-padded, text-length, text-within, padded-text}
 
 module _ (t : List ℕ) (some : 1 ≤ length t) (h : length t ≤ 15) (w : within 10 t ≡ true) where
   abbrev coded : List ℕ

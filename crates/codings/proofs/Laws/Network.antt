@@ -6,8 +6,8 @@ use mathlib.Core.Bool.{Bool, true, false}
 use borrow.Author.Tests.{eq-eqb, ne-eqb, lt-ltb, le-ltb}
 use lib.ListN.{length, getD, take, drop}
 use Rattle.codings.specs.Answers.{outcome, done}
-use Rattle.codings.specs.Halves.{halves, joined}
-use Rattle.codings.specs.Fields.{lead, filled}
+use Rattle.fields.specs.Halves.{halves, joined}
+use Rattle.fields.specs.Text.{lead, filled}
 use Rattle.codings.specs.Network.{named, network, entryIn, decode, writable, bytes, encode}
 use Rattle.codings.specs.declared.network.Plmn.{Plmn}
 use Rattle.codings.specs.declared.network.Plmn.the-variants.{Unused, Network}

@@ -8,15 +8,15 @@ use borrow.Author.Tests.{eq-eqb, lt-ltb, ltb-true, eqb-true}
 use lib.Dec.{eqb}
 use lib.ListN.{length, getD, take, drop}
 use Rattle.codings.specs.Answers.{done}
-use Rattle.codings.specs.Halves.{halves, joined}
-use Rattle.codings.specs.Fields.{lead, filled}
+use Rattle.fields.specs.Halves.{halves, joined}
+use Rattle.fields.specs.Text.{lead, filled}
 use Rattle.codings.specs.Network.{named, network, entryIn, decode, writable, bytes, encode}
 use Rattle.codings.specs.declared.network.Plmn.{Plmn}
 use Rattle.codings.specs.declared.network.Plmn.the-variants.{Unused, Network}
 use Rattle.codings.proofs.Laws.Answers.{right, was-done}
 use Rattle.codings.proofs.Laws.Bytes.{both}
-use Rattle.codings.proofs.Laws.Halves.{pair}
-use Rattle.codings.proofs.Laws.Fields.{lead-below, filled-is, lead-none, goes-on, ends, broken}
+use Rattle.fields.proofs.Laws.Halves.{pair}
+use Rattle.fields.proofs.Laws.Fields.{lead-below, filled-is, lead-none, goes-on, ends, broken}
 use Rattle.codings.proofs.Laws.Network.{free, is-named, is-network}
 
 -- six halves of a network are named

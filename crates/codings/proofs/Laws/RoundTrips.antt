@@ -6,8 +6,8 @@ use mathlib.Core.Bool.{false, _||_, _&&_}
 use lib.Dec.{ltb}
 use lib.ListN.{length, getD, drop, replicate}
 use Rattle.codings.specs.Answers.{done, judge}
-use Rattle.codings.specs.Halves.{halves, joined}
-use Rattle.codings.specs.Fields.{lead, filled, padded, text, closed, within}
+use Rattle.fields.specs.Halves.{halves, joined}
+use Rattle.fields.specs.Text.{lead, filled, padded, text, closed, within}
 use Rattle.codings.specs.Network as network
 use Rattle.codings.specs.Spn as spn
 use Rattle.codings.specs.Spn.{Provider}

@@ -8,12 +8,12 @@ use borrow.Author.Tests.{eq-eqb, ne-eqb, lt-ltb, le-ltb, le-leb, lt-leb}
 use lib.Dec.{eqb}
 use lib.ListN.{length, getD, take, drop, set}
 use Rattle.codings.specs.Answers.{Outcome, outcome, done}
-use Rattle.codings.specs.Fields.{lead, padded, placed, text, closed, within}
+use Rattle.fields.specs.Text.{lead, padded, placed, text, closed, within}
 use Rattle.codings.specs.Spn.{Shows, Provider, provider, inFile, bits, decode, writable, encode}
 use Rattle.codings.specs.declared.Answer.the-variants.{Done}
 use Rattle.codings.specs.declared.spn.Spn.{Spn}
 use Rattle.codings.proofs.Laws.Answers.{wrong-length, wrong-value, right}
-use Rattle.codings.proofs.Laws.Text.{rest}
+use Rattle.fields.proofs.Laws.Text.{rest}
 
 pub bits-are : (b1 b2 x y : Bool) → b1 ≡ x → b2 ≡ y → bits x y ≡ bits b1 b2
 bits-are b1 b2 x y p q = rw (p, q)

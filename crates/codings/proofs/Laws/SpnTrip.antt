@@ -8,13 +8,13 @@ use borrow.Author.Tests.{eq-eqb, eqb-true, lt-ltb, ltb-true, le-leb, leb-true}
 use lib.Dec.{eqb, ltb, leb}
 use lib.ListN.{length, getD, drop}
 use Rattle.codings.specs.Answers.{done}
-use Rattle.codings.specs.Fields.{padded, text, closed, within}
+use Rattle.fields.specs.Text.{padded, text, closed, within}
 use Rattle.codings.specs.Spn.{Provider, provider, inFile, bits, decode, writable, encode}
 use Rattle.codings.proofs.Laws.Answers.{right, was-done}
 use Rattle.codings.proofs.Laws.Bytes.{both}
-use Rattle.codings.proofs.Laws.Fields.{padded-length}
+use Rattle.fields.proofs.Laws.Fields.{padded-length}
 use Rattle.codings.proofs.Laws.Services.{below4}
-use Rattle.codings.proofs.Laws.Text.{lead-le, closed-padded, text-padded, text-length, text-within, padded-text}
+use Rattle.fields.proofs.Laws.Text.{lead-le, closed-padded, text-padded, text-length, text-within, padded-text}
 
 -- the two bits and their byte
 bits-back : (b1 b2 : Bool) → (bits b1 b2 < 4) × ((eqb (bits b1 b2 % 2) 1 ≡ b1) × (eqb (bits b1 b2 / 2) 1 ≡ b2))

@@ -1,6 +1,6 @@
 -- `codings::spn::refused` meets its contract.
 use mathlib.Core.Path.{refl}
-use Rattle.codings.specs.Fields.{padded}
+use Rattle.fields.specs.Text.{padded}
 use Rattle.codings.proofs.spn.refused.Statement.{statement}
 use Rattle.codings.proofs.spn.refused.Tie as tie
 
