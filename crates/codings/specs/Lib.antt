@@ -1,0 +1,11 @@
+pub mod Answers
+pub mod Network
+pub mod Services
+pub mod Admin
+pub mod Spn
+pub mod Iccid
+pub mod Imsi
+pub mod ImsiByCount
+pub mod RoundTrips
+pub mod Examples
+pub mod OneOutcome

@@ -1,0 +1,3 @@
+// Halves of bytes, and fields that hold a text and filler. What they mean is the definition, in specs/.
+pub mod halves;
+pub mod text;
