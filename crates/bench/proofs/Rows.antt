@@ -16,9 +16,13 @@ use Rattle.card.specs.Marks.{invalidate, rehabilitate}
 use Rattle.card.specs.Forms.{instructionOf, formed, sent}
 use Rattle.card.specs.Codes.{tested, verify, change, disable, enable, unblock}
 use Rattle.card.specs.Play.{act, performAs, perform, play, run}
+use Rattle.fields.specs.Halves.{halves, joined}
+use Rattle.fields.specs.Text.{lead, filled}
+use Rattle.codings.specs.Answers.{judge}
+use Rattle.codings.specs.Network.{network, entryIn, decode, writable, bytes, encode}
 use Rattle.bench.specs.Table.{EveryRowHolds}
 
 pub everyRowHolds : EveryRowHolds
-unfolding run play perform performAs act instructionOf formed sent head contents start tested verify change disable enable unblock binary readBinary updateBinary chosen ofRecord readRecord updateRecord sought seekRecord increaseBy invalidate rehabilitate select tellStatus getResponse child children member members directoryType directoryResponse fileResponse leads named findDirectory findFile unless first rights shared fits pointed stands padded howMany firstFrom same isImage codesSound directoriesSound filesSound bytesSound all codeRules below within twins directoryRules twinFiles recordsRule topRule fileRules every none word index codeEntry code directoryEntry directory fileEntry file sizes
+unfolding halves joined lead filled judge Rattle.codings.specs.Network.named network entryIn decode writable bytes encode run play perform performAs act instructionOf formed sent head contents start tested verify change disable enable unblock binary readBinary updateBinary chosen ofRecord readRecord updateRecord sought seekRecord increaseBy invalidate rehabilitate select tellStatus getResponse child children member members directoryType directoryResponse fileResponse leads named findDirectory findFile unless first rights shared fits pointed stands padded howMany firstFrom same isImage codesSound directoriesSound filesSound bytesSound all codeRules below within twins directoryRules twinFiles recordsRule topRule fileRules every none word index codeEntry code directoryEntry directory fileEntry file sizes
 everyRowHolds =
-    ((refl, refl), ((refl, refl), ((refl, refl), (refl, ((refl, refl), ((refl, refl), (refl, tt)))))))
+    ((refl, refl), ((refl, refl), ((refl, refl), (refl, ((refl, refl), ((refl, refl), (refl, ((λ x y z. refl, refl), tt))))))))

@@ -6,23 +6,30 @@ use Rattle.card.specs.Sessions.{reset}
 use Rattle.card.specs.Play.{Outcome, run}
 use Rattle.card.specs.declared.Pointer.{Pointer}
 use Rattle.card.specs.declared.Pointer.the-variants.{Undefined, At}
+use Rattle.codings.specs.Answers as coding
+use Rattle.codings.specs.Network as network
+use Rattle.codings.specs.declared.network.Plmn.{Plmn}
+use Rattle.codings.specs.declared.network.Plmn.the-variants.{Network}
 use Rattle.bench.specs.CardK.{cardK, cardWith}
 
--- A row: an image, commands from a reset, and the exact responses; or the pointer after each command.
+-- A row: an image, commands from a reset, and the exact responses; or the pointer after each command; or a PLMN entry and its bytes.
 pub data Row : Type 0 where
   answers : List ℕ → List (List ℕ) → List (List ℕ) → Row
   points : List ℕ → List (List ℕ) → List Pointer → Row
+  codes : Plmn → List ℕ → Row
 
 -- each command with room for 258 bytes
 abbrev pub played : List ℕ → List (List ℕ) → List Outcome
 played l cs = run l reset (map (λ c. (c, 258)) cs)
 
--- every command is played, host answer 0
+-- Every command is played, host answer 0. The bytes are written into whatever three bytes are lent, and read back.
 abbrev pub Holds : Row → Type 0
 Holds (answers l cs rs) =
     (map (λ (o : Outcome). o .host) (played l cs) ≡ map (λ (r : List ℕ). 0) rs)
     × (map (λ (o : Outcome). o .response) (played l cs) ≡ rs)
 Holds (points l cs ps) = map (λ (o : Outcome). o .session .pointer) (played l cs) ≡ ps
+Holds (codes e b) =
+    ((x y z : ℕ) → network.encode e (x ∷ y ∷ z ∷ []) ≡ coding.done b) × (network.decode b ≡ coding.done e)
 
 abbrev pub All : List Row → Type 0
 All [] = Unit
@@ -94,6 +101,8 @@ table =
     (selectDF ∷ selectEF 0x6f 0xe0 ∷ seek ∷ seek ∷ seek ∷ [])
     (waits 0x16 ∷ waits 0x0f ∷ done ∷ done ∷ (0x94 ∷ 0x04 ∷ []) ∷ [])
     ∷ points cardK (selectDF ∷ selectEF 0x6f 0xe0 ∷ seek ∷ seek ∷ seek ∷ []) (Undefined ∷ Undefined ∷ At 1 ∷ At 3 ∷ At 3 ∷ [])
+    -- P12: "MCC 246, MNC 81 is 42F618"
+    ∷ codes (Network 246 81 2) (0x42 ∷ 0xf6 ∷ 0x18 ∷ [])
     ∷ []
 
 -- P1 to P12 hold of the definition.
