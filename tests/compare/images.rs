@@ -7,14 +7,21 @@ use crate::pairs::Pairs;
 use crate::prng::Prng;
 use crate::runs::Scout;
 use crate::tally::{for_all, Tally};
-use crate::{broken, edges, sound};
+use crate::{broken, edges, sound, sweep};
 
 pub fn run(options: &Options, tally: &mut Tally) {
     named(options, tally);
-    let verdicts = for_all(options.jobs, options.count, |place| {
-        let number = options.first + place;
-        let input = input(options, number);
-        let name = format!("seed {} image {number}", options.seed);
+    let swept = sweep::runs();
+    let verdicts = for_all(options.jobs, swept.len() + options.count, |place| {
+        let (name, input) = match swept.get(place) {
+            Some(commands) => {
+                (format!("sweep {place}"), of_run(&edges::base().to_bytes(), commands))
+            }
+            None => {
+                let number = options.first + place - swept.len();
+                (format!("seed {} image {number}", options.seed), input(options, number))
+            }
+        };
         let verdict = judge::compare(options, &name, &input);
         (pairs_of(&input, &verdict), verdict.results)
     });

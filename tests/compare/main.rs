@@ -19,6 +19,7 @@ mod shelf;
 mod sound;
 mod spoil;
 mod steps;
+mod sweep;
 mod tally;
 
 use options::Options;

@@ -15,6 +15,7 @@ pub struct Scout<'a> {
     unblock: [[u8; 8]; 2],
     /// Bytes that may wait for GET RESPONSE.
     waiting: u8,
+    last: Vec<u8>,
 }
 
 pub fn apdu(instruction: u8, p1: u8, p2: u8, data: &[u8]) -> Vec<u8> {
@@ -38,36 +39,58 @@ impl<'a> Scout<'a> {
             directory: 0,
             file: None,
             waiting: 0,
+            last: Vec::new(),
         }
     }
 
     pub fn run(&mut self, count: usize) -> Vec<Vec<u8>> {
-        (0..count).map(|_| self.next()).collect()
+        let mut commands = Vec::new();
+        for number in [1, 2] {
+            if self.prng.percent(60) {
+                commands.push(apdu(0x20, 0, number, &self.chv[usize::from(number) - 1]));
+            }
+        }
+        while commands.len() < count {
+            commands.push(self.next());
+        }
+        commands.truncate(count);
+        commands
     }
 
     fn next(&mut self) -> Vec<u8> {
         if self.prng.percent(12) {
             let state = (self.directory, self.file);
-            let command = self.sound();
+            let mut command = self.sound();
             (self.directory, self.file) = state;
-            return spoil::command(self.prng, command);
+            // Two faults at once try the order of refusals.
+            for _ in 0..self.prng.pick(&[1, 1, 2]) {
+                command = spoil::command(self.prng, command);
+            }
+            return command;
         }
-        self.sound()
+        if self.last.len() > 5 && self.prng.percent(8) {
+            return self.last.clone();
+        }
+        self.last = self.sound();
+        self.last.clone()
     }
 
     fn sound(&mut self) -> Vec<u8> {
-        if self.waiting > 0 && self.prng.percent(35) {
+        if self.waiting > 0 && self.prng.percent(25) {
             return self.get_response();
         }
+        if self.file.is_none() && self.prng.percent(50) {
+            return self.select_file();
+        }
         match self.prng.below(100) {
-            0..=6 => self.select_directory(),
-            7..=24 => self.select_file(),
-            25..=28 => self.select_astray(),
-            29..=47 => self.code(),
-            48..=51 => asking(0xF2, 0, 0, self.prng.between(1, 22) as u8),
-            52..=53 => asking(0xFA, 0, 0, 0),
-            54..=57 => self.get_response(),
-            58..=64 => asking(self.prng.pick(&[0x04, 0x44]), 0, 0, 0),
+            0..=2 => self.select_directory(),
+            3..=13 => self.select_file(),
+            14..=16 => self.select_astray(),
+            17..=32 => self.code(),
+            33..=35 => asking(0xF2, 0, 0, self.prng.between(1, 22) as u8),
+            36 => asking(0xFA, 0, 0, 0),
+            37..=39 => self.get_response(),
+            40..=45 => asking(self.prng.pick(&[0x04, 0x44]), 0, 0, 0),
             _ => self.on_file(),
         }
     }

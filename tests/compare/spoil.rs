@@ -3,6 +3,9 @@
 use crate::prng::Prng;
 
 pub fn command(prng: &mut Prng, mut command: Vec<u8>) -> Vec<u8> {
+    if command.len() < 5 {
+        return command;
+    }
     match prng.below(9) {
         0 => command[0] = prng.pick(&[0x00, 0x80, 0xA1, 0xB0, 0xFF]),
         1 => command[1] = unknown(prng),
