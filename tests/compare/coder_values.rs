@@ -107,17 +107,29 @@ pub fn valid(prng: &mut Prng, kind: u8, operation: u8) -> Entry {
     Entry { kind, operation, file, value }
 }
 
+/// The shortest valid file of its kind, filled up.
+fn shortest(kind: u8) -> Vec<u8> {
+    let (start, length): (&[u8], usize) = match kind {
+        1 => (&[0xF8], 10),
+        2 => (&[0x01, 0x79], 9),
+        3 => (&[0x42, 0xF6, 0x18], 3),
+        4 => (&[0x02, 0x00], 2),
+        5 => (&[0x01], 17),
+        _ => (&[0x01, 0x00, 0x01], 3),
+    };
+    let mut file = start.to_vec();
+    file.resize(length, 0xFF);
+    file
+}
+
 /// All one-byte changes of valid files and a sample of two-byte changes.
 pub fn changed(prng: &mut Prng) -> Vec<Entry> {
     let mut list = Vec::new();
     for kind in 1..=6 {
-        let sound = valid(prng, kind, DECODE);
-        for place in 0..sound.file.len() {
-            for byte in 0..=255 {
-                let mut entry = sound.clone();
-                entry.file[place] = byte;
-                list.push(entry);
-            }
+        let mut first = valid(prng, kind, DECODE);
+        first.file = shortest(kind);
+        for sound in [first, valid(prng, kind, DECODE), valid(prng, kind, DECODE)] {
+            one_byte(&sound, &mut list);
         }
         for _ in 0..1_000 {
             let mut entry = valid(prng, kind, DECODE);
@@ -131,11 +143,22 @@ pub fn changed(prng: &mut Prng) -> Vec<Entry> {
     list
 }
 
+fn one_byte(sound: &Entry, list: &mut Vec<Entry>) {
+    for place in 0..sound.file.len() {
+        for byte in 0..=255 {
+            let mut entry = sound.clone();
+            entry.file[place] = byte;
+            list.push(entry);
+        }
+    }
+}
+
 /// A case of any kind and operation, right in about half of them.
 pub fn random(prng: &mut Prng) -> Entry {
     let (kind, operation) = (prng.between(1, 6) as u8, prng.pick(&[DECODE, ENCODE]));
     let mut entry = valid(prng, kind, operation);
-    match prng.below(12) {
+    match prng.below(13) {
+        12 => entry.file = vec![prng.pick(&[0x00, 0xFF]); entry.file.len()],
         0 => entry.file = other_length(prng, &entry.file),
         1 => entry.file = prng.bytes(entry.file.len()),
         2 => entry.value = other_length(prng, &entry.value),
