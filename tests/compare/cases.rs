@@ -1,7 +1,7 @@
 //! Stored runs in text form; see tests/README.md for the form.
 
 use crate::coder_cases;
-use crate::input::of_run;
+use crate::input::{frame, of_run};
 use crate::judge::{lines, usable};
 use crate::options::Options;
 use crate::tally::{for_all, Tally};
@@ -102,6 +102,26 @@ pub fn input_of(path: &str) -> Result<Vec<u8>, String> {
         return Ok(input(&read(Path::new(path))?));
     }
     std::fs::read(path).map_err(|error| format!("{path}: {error}"))
+}
+
+/// An input in the text form, its expectations still to be written.
+pub fn show(path: &str) -> Result<(), String> {
+    let input = input_of(path)?;
+    let count = input.get(..2).ok_or(format!("{path}: too short"))?;
+    let end = 2 + usize::from(u16::from_be_bytes([count[0], count[1]]));
+    let hexadecimal = |bytes: &[u8]| -> String {
+        bytes.iter().map(|byte| format!("{byte:02X}")).collect()
+    };
+    println!("image");
+    for line in input.get(2..end).unwrap_or_default().chunks(32) {
+        println!("{}", hexadecimal(line));
+    }
+    println!("commands");
+    for command in frame(&input).commands {
+        let text = if command.is_empty() { "-".to_string() } else { hexadecimal(&command) };
+        println!("{text} =>");
+    }
+    Ok(())
 }
 
 pub fn read(path: &Path) -> Result<Case, String> {

@@ -23,16 +23,7 @@ fn valid_file(prng: &mut Prng, kind: u8) -> Vec<u8> {
             halves.resize(20, 15);
             packed(&halves)
         }
-        2 => {
-            let count = prng.between(1, 15);
-            let mut halves = vec![if count % 2 == 1 { 9 } else { 1 }];
-            halves.extend(digits(prng, count));
-            halves.resize(count / 2 * 2 + 2, 15);
-            let mut file = vec![halves.len() as u8 / 2];
-            file.extend(packed(&halves));
-            file.resize(9, 0xFF);
-            file
-        }
+        2 => valid_imsi(prng),
         3 => {
             let list = digits(prng, 5);
             packed(&[list[0], list[1], list[2], 15, list[3], list[4]])
@@ -58,6 +49,17 @@ fn valid_file(prng: &mut Prng, kind: u8) -> Vec<u8> {
             file
         }
     }
+}
+
+fn valid_imsi(prng: &mut Prng) -> Vec<u8> {
+    let count = prng.between(1, 15);
+    let mut halves = vec![if count % 2 == 1 { 9 } else { 1 }];
+    halves.extend(digits(prng, count));
+    halves.resize(count / 2 * 2 + 2, 15);
+    let mut file = vec![halves.len() as u8 / 2];
+    file.extend(packed(&halves));
+    file.resize(9, 0xFF);
+    file
 }
 
 fn mode(prng: &mut Prng) -> u8 {

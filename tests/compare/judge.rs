@@ -91,7 +91,8 @@ pub fn differ(
     let longest = theirs.len().max(ours.len());
     let place = (0..longest).find(|place| theirs.get(*place) != ours.get(*place)).unwrap_or(0);
     let nothing = "(no line)".to_string();
-    let (left, right) = (theirs.get(place).unwrap_or(&nothing), ours.get(place).unwrap_or(&nothing));
+    let left = theirs.get(place).unwrap_or(&nothing);
+    let right = ours.get(place).unwrap_or(&nothing);
     let from = parting(left, right).saturating_sub(40);
     Err(format!(
         "command {}\n  {who}: {}\n  second: {}",

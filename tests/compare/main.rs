@@ -31,6 +31,12 @@ fn main() {
         eprintln!("{error}\n{}", options::USAGE);
         std::process::exit(2);
     });
+    if options.mode == "show" {
+        for path in &options.paths {
+            cases::show(path).unwrap_or_else(|error| eprintln!("{error}"));
+        }
+        return;
+    }
     let mut tally = Tally::default();
     if ready(&options, &mut tally) {
         match options.mode.as_str() {

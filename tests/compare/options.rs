@@ -21,13 +21,14 @@ pub struct Options {
 }
 
 pub const USAGE: &str = "usage: compare [MODE] [OPTION...] [PATH...]
-modes:   images (by itself where none is named), random, prefixes, steps, coder, cases
+modes:   images (by itself where none is named), random, prefixes, steps, coder, cases,
+         show (an input file in the form of a case)
 options: --player CMD --teller CMD --coder CMD --second CMD
          --seed N --first N --count N --commands N --jobs N --limit SECONDS
          --table (print what each instruction gave) --all-plmn (all 2^24 entries)
-paths:   prefixes: input files or cases; cases: folders";
+paths:   prefixes, steps, show: input files or cases; cases: folders";
 
-const MODES: [&str; 6] = ["images", "random", "prefixes", "steps", "coder", "cases"];
+const MODES: [&str; 7] = ["images", "random", "prefixes", "steps", "coder", "cases", "show"];
 
 pub fn read(arguments: &[String]) -> Result<Options, String> {
     let mut options = Options {

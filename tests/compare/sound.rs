@@ -11,7 +11,8 @@ pub fn image(prng: &mut Prng) -> Shelf {
         prng.between(low, high)
     };
     let directories = most(prng, &[(75, (1, 5)), (20, (6, 31)), (5, (32, 32))]);
-    let files = most(prng, &[(2, (0, 0)), (70, (3, 12)), (22, (13, 60)), (3, (61, 199)), (3, (200, 200))]);
+    let counts = [(2, (0, 0)), (70, (3, 12)), (22, (13, 60)), (3, (61, 199)), (3, (200, 200))];
+    let files = most(prng, &counts);
     let mut room = prng.weighted(&[(60, 600), (30, 4_000), (10, MOST_BYTES)]);
     let mut shelf = Shelf {
         codes: vec![one_code(prng, true), one_code(prng, false)],
