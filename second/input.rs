@@ -2,25 +2,30 @@ use std::fs::File;
 use std::io::Read;
 use std::os::fd::AsFd;
 
-/// Standard input without reading ahead: the library's own reader would take
-/// more than was asked for, so the descriptor is read directly.
 pub struct Input {
-    file: Option<File>,
+    source: Box<dyn Read>,
 }
 
 /// The input ended before what was asked for was there.
 pub struct Short;
 
 impl Input {
-    pub fn open() -> Input {
-        let descriptor = std::io::stdin().as_fd().try_clone_to_owned();
-        Input { file: descriptor.ok().map(File::from) }
+    /// Standard input without reading ahead: the library's own reader would
+    /// take more than was asked for, so the descriptor is read directly.
+    pub fn step_by_step() -> Input {
+        match std::io::stdin().as_fd().try_clone_to_owned() {
+            Ok(descriptor) => Input { source: Box::new(File::from(descriptor)) },
+            Err(_) => Input { source: Box::new(std::io::empty()) },
+        }
+    }
+
+    pub fn ahead() -> Input {
+        Input { source: Box::new(std::io::stdin().lock()) }
     }
 
     pub fn bytes(&mut self, count: usize) -> Result<Vec<u8>, Short> {
         let mut bytes = vec![0; count];
-        let file = self.file.as_mut().ok_or(Short)?;
-        file.read_exact(&mut bytes).map_err(|_| Short)?;
+        self.source.read_exact(&mut bytes).map_err(|_| Short)?;
         Ok(bytes)
     }
 

@@ -9,7 +9,7 @@ use crate::{parse, write};
 use std::io::Write;
 
 pub fn run(tell_image: bool) {
-    let mut input = Input::open();
+    let mut input = Input::step_by_step();
     let mut bytes = Vec::new();
     if session(&mut input, &mut bytes).is_err() {
         line("short input");
@@ -48,7 +48,7 @@ fn commands(input: &mut Input, mut card: Option<&mut Image>) -> Result<(), Short
     Ok(())
 }
 
-pub fn line(text: &str) {
+fn line(text: &str) {
     let mut out = std::io::stdout().lock();
     let _ = out.write_all(text.as_bytes());
     let _ = out.write_all(b"\n");

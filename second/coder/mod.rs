@@ -28,7 +28,7 @@ mod services;
 
 use crate::hexadecimal::text;
 use crate::input::{Input, Short};
-use crate::program::line;
+use std::io::{BufWriter, Write};
 
 const WRONG_LENGTH: u8 = 5;
 const OUTSIDE: u8 = 6;
@@ -37,19 +37,21 @@ const DECODE: u8 = 0;
 const ENCODE: u8 = 1;
 
 pub fn run() {
-    let mut input = Input::open();
-    if cases(&mut input).is_err() {
-        line("short input");
+    let mut input = Input::ahead();
+    let mut output = BufWriter::new(std::io::stdout().lock());
+    if cases(&mut input, &mut output).is_err() {
+        let _ = writeln!(output, "short input");
     }
+    let _ = output.flush();
 }
 
-fn cases(input: &mut Input) -> Result<(), Short> {
+fn cases(input: &mut Input, output: &mut impl Write) -> Result<(), Short> {
     let count = input.number()?;
     for number in 1..=count {
         let header = input.bytes(2)?;
         let file = input.counted()?;
         let value = input.counted()?;
-        line(&format!("{number} {}", told(header[0], header[1], file, value)));
+        let _ = writeln!(output, "{number} {}", told(header[0], header[1], file, value));
     }
     Ok(())
 }
