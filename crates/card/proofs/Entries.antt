@@ -1,10 +1,10 @@
 -- Which bytes of a list an index, a code, a directory and a file are read from.
 use Prim.Native.Nat.{ℕ, _+_, _*_}
-use mathlib.Core.Path.{_≡_, ap, _∙_}
+use mathlib.Core.Path.{_≡_, refl, ap, _∙_}
 use mathlib.Core.List.{List}
 use native.Mathlib.Omega.{arith}
-use Rattle.card.specs.Bytes.{word}
-use Rattle.card.specs.Layout.{index, indexWith, codeEntry, code, codeAt, directoryEntry, directory, directoryAt, fileEntry, file, fileAt}
+use Rattle.card.specs.Bytes.{byte, word}
+use Rattle.card.specs.Layout.{index, indexWith, codeEntry, code, codeAt, directoryEntry, directory, directoryAt, fileEntry, file, fileAt, statusAt, topAt}
 use Rattle.card.specs.declared.Index.{Index}
 use Rattle.card.specs.declared.Entry.{Entry}
 use Rattle.card.proofs.Parts.{Agree, narrow}
@@ -110,3 +110,12 @@ file-by l l′ f e g =
     marked-by at _ _ (narrow g (omega arith) (omega arith)) (narrow g (omega arith) (omega arith)) (narrow g (omega arith) (omega arith))
     ∙ (λ i. marked (fileEntry l′ at) (g .at (at + 9) (omega arith) (omega arith) i) (g .at (at + 12) (omega arith) (omega arith) i))
     ∙ ap (λ (x : Index). fileEntry l′ (fileAt x f)) e
+
+-- where a file's status and top stand
+pub status-byte : (l : List ℕ) (f : ℕ) → file l f .status ≡ byte l (statusAt (index l) f)
+unfolding file fileEntry
+status-byte l f = refl
+
+pub top-byte : (l : List ℕ) (f : ℕ) → file l f .top ≡ byte l (topAt (index l) f)
+unfolding file fileEntry
+top-byte l f = refl

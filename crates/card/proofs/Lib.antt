@@ -5,4 +5,8 @@ pub mod Frames
 pub mod Images
 pub mod Heads
 pub mod Refusals
+pub mod Forms
+pub mod Walk
 pub mod Blind
+pub mod Keeping
+pub mod Refusing
