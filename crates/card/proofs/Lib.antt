@@ -4,7 +4,15 @@ pub mod Entries
 pub mod Frames
 pub mod Images
 pub mod Heads
+pub mod Fitting
+pub mod Writes
 pub mod Refusals
+pub mod Ranges
+pub mod Replies
+pub mod Codes
+pub mod Effects
+pub mod After
+pub mod Stays
 pub mod Forms
 pub mod Walk
 pub mod Blind
