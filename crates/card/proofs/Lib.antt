@@ -13,6 +13,8 @@ pub mod Codes
 pub mod Effects
 pub mod After
 pub mod Stays
+pub mod Likeness
+pub mod Unseen
 pub mod Forms
 pub mod Walk
 pub mod Blind
