@@ -120,12 +120,13 @@ module _ (h b : List ℕ) (s : Session) (m : Ready h b s) (f : ℕ) (c : s .curr
   unfolding increaseBy
   increaseBy-keeps added n =
       let sum = amount b (recordAt (file h f) 1) + amount added 0 in
+      let six : length (amountBytes sum ++ added) ≤ 22 = rw length-append (omega arith) in
       guarded W _ _ _ not-written
       (λ p.
       let g = granted r (file h f) counting (counter (file h f)) _ p in
       let k = counter-sound (rules h b s m f c) (g .suits) in
       pushed-keeps (amountBytes sum) _ (k .0) (sym (k .1))
-      (fits-waits h _ (first-record s (m .fits) c (k .0)) (amountBytes sum ++ added) (rw length-append (omega arith))))
+      (fits-waits h _ (first-record s (m .fits) c (k .0)) (amountBytes sum ++ added) six))
 
   not-marked : (w : ℕ) → Changed h (record { given = refusal s w; status = file h f .status })
   not-marked w = record { status = rules h b s m f c .status; session = dropped-fits h b s m }

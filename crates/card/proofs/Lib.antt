@@ -15,6 +15,8 @@ pub mod After
 pub mod Stays
 pub mod Likeness
 pub mod Unseen
+pub mod Tree
+pub mod Single
 pub mod Forms
 pub mod Walk
 pub mod Blind
