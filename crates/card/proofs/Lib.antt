@@ -17,6 +17,7 @@ pub mod Likeness
 pub mod Unseen
 pub mod Tree
 pub mod Single
+pub mod Witness
 pub mod Forms
 pub mod Walk
 pub mod Blind
