@@ -18,7 +18,7 @@ use Rattle.card.specs.Records.{updateRecord, chosen, moved, recordAt, pu
 use Rattle.card.specs.Increase.{increaseBy, amount, amountBytes}
 use Rattle.card.specs.Marks.{invalidate, rehabilitate}
 use Rattle.card.specs.Forms.{both as these, formed, sent}
-use Rattle.card.specs.Play.{act, marks, writes, wanted}
+use Rattle.card.specs.Play.{act, marks, writes, byCode, wanted}
 use Rattle.card.specs.declared.Entry.{Entry}
 use Rattle.card.specs.declared.Rights.{Rights}
 use Rattle.card.specs.declared.Session.{Session}
@@ -161,7 +161,7 @@ module _ (h b : List ℕ) (s : Session) (m : Ready h b s) where
   wrote f c w k =
       record { head = kept-top h (m .head) f _ (here h b s m f c) (k .top); contents = k .contents; session = k .session }
 
-  coded : (c : ℕ) → c < 2 → (k : Coded) → Tested h c k → Keeps h b (effect (splice h (codeAt c) 20 (k .entry)) b (k .given))
+  coded : (c : ℕ) → c < 2 → (k : Coded) → Tested h c k → Keeps h b (byCode h b c (λ e c. k))
   coded c n k t = record { head = kept-entry h (m .head) c n (k .entry) (t .entry); contents = refl; session = t .session }
 
   now : (c : ℕ) → c < 2 → SoundEntry c (part h (codeAt c) 20)

@@ -22,7 +22,7 @@ use Rattle.card.specs.Increase.{increaseBy}
 use Rattle.card.specs.Marks.{invalidate, rehabilitate}
 use Rattle.card.specs.Codes.{Key, chv, unblocking, value, attemptsLeft, attemptsAt, ready, tested, verify, change, disable, enable, unblock}
 use Rattle.card.specs.Forms.{both, formed, sent}
-use Rattle.card.specs.Play.{act, reads, marks, writes, byFile, wanted}
+use Rattle.card.specs.Play.{act, reads, marks, writes, byFile, byCode, wanted}
 use Rattle.card.specs.Demands.{carriedOut, Tries, verifies, changes, disables, enables, unblocks}
 use Rattle.card.specs.declared.Entry.{Entry}
 use Rattle.card.specs.declared.Rights.{Rights}
@@ -194,12 +194,12 @@ module _ (h b : List ℕ) (s : Session) (i : Instruction) (q : ℕ) (d : List �
       (λ f c. so (λ u. (u .0, inl (ap (set h (topAt (index h) f)) (u .1 ∙ top-byte h f) ∙ set-getD h _ 0))) (p (rights h s) (file h f)))
 
   coded : (c : ℕ) (key : Key) (given : List ℕ) (k : Coded) → Tries i q key c → c < 2 → given ≡ take 8 d → C (part h (codeAt c) 20) s given key k
-      → E (effect (splice h (codeAt c) 20 (k .entry)) b (k .given))
+      → E (byCode h b c (λ e c. k))
   coded c key given k t n g p = so go p
     where
       go : (k .entry ≡ part h (codeAt c) 20) ⊎ Fallen (part h (codeAt c) 20) given key k
           → (b ≡ b)
-          × ((splice h (codeAt c) 20 (k .entry) ≡ h) ⊎ Fell h i q d (effect (splice h (codeAt c) 20 (k .entry)) b (k .given)))
+          × ((byCode h b c (λ e c. k) .head ≡ h) ⊎ Fell h i q d (byCode h b c (λ e c. k)))
       go (inl e) = (refl, inl (ap (splice h (codeAt c) 20) e ∙ splice-self h (codeAt c) 20))
       go (inr f) = (
         refl,
