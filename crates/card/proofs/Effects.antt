@@ -1,25 +1,24 @@
 -- Each command keeps the head sound, the number of the file's bytes, and a session that fits.
 use Prim.Native.Nat.{ℕ, _+_, _-_, _*_, _%_, _<_, _≤_}
 use mathlib.Core.Path.{_≡_, refl, sym, _∙_}
-use mathlib.Core.List.{List, [], _∷_, _++_}
-use mathlib.Core.Bool.{Bool, true, false, _||_, not}
+use mathlib.Core.List.{List, [], _++_}
+use mathlib.Core.Bool.{true, false, _||_, not}
 use native.Mathlib.Omega.{arith}
 use native.Mathlib.Nat.{mod-lt}
-use lib.Dec.{eqb, ltb}
+use lib.Dec.{eqb}
 use lib.ListN.{length, length-append}
 use borrow.Author.Tests.{eqb-true, eqb-false, ltb-false, not-true, not-false}
 use Rattle.card.specs.Bytes.{part, splice}
 use Rattle.card.specs.Layout.{codeAt, file, transparent, cyclic, counter, records}
 use Rattle.card.specs.Images.{SoundStatus, SoundTop}
-use Rattle.card.specs.Sessions.{fits, waits, dropped, points}
-use Rattle.card.specs.Answers.{Reply, reply, refusal, Coded, Marked, Written, written, effect, first}
+use Rattle.card.specs.Sessions.{fits, dropped, points}
+use Rattle.card.specs.Answers.{Reply, refusal, Coded, Marked, Written, written, effect, first}
 use Rattle.card.specs.Binary.{binary, updateBinary}
-use Rattle.card.specs.Records.{updateRecord, chosen, moved, recordAt, pushed, updatable}
+use Rattle.card.specs.Records.{updateRecord, recordAt, pushed, updatable}
 use Rattle.card.specs.Increase.{increaseBy, amount, amountBytes}
 use Rattle.card.specs.Marks.{invalidate, rehabilitate}
 use Rattle.card.specs.Forms.{both as these, formed, sent}
 use Rattle.card.specs.Play.{act, marks, writes, byCode, wanted}
-use Rattle.card.specs.declared.Entry.{Entry}
 use Rattle.card.specs.declared.Rights.{Rights}
 use Rattle.card.specs.declared.Session.{Session}
 use Rattle.card.specs.declared.Current.the-variants.{File}
@@ -31,7 +30,7 @@ use Rattle.card.proofs.Tests.{both, apart}
 use Rattle.card.proofs.Parts.{length-splice}
 use Rattle.card.proofs.Images.{counter-sound}
 use Rattle.card.proofs.Fitting.{Fits, fits-waits}
-use Rattle.card.proofs.Writes.{Kept, kept-refl, kept-status, kept-top, SoundEntry, kept-entry, entry-sound}
+use Rattle.card.proofs.Writes.{kept-status, kept-top, SoundEntry, kept-entry, entry-sound}
 use Rattle.card.proofs.Refusals.{guarded, choice, ofFile, passed, granted}
 use Rattle.card.proofs.Forms.{fixed, numbered, minus-one, halved}
 use Rattle.card.proofs.Codes.{Tested, verify-keeps, change-keeps, disable-keeps, enable-keeps, unblock-keeps}
@@ -62,7 +61,7 @@ module _ (h b : List ℕ) (s : Session) (m : Ready h b s) (f : ℕ) (c : s .curr
   updateBinary-keeps : (at : ℕ) (new : List ℕ) → W (updateBinary r (file h f) b s at new)
   unfolding updateBinary binary
   updateBinary-keeps at new =
-      guarded W _ _ _ not-written
+      guarded W _ _ _ (λ w. not-written _)
       (λ p.
       let g = granted r (file h f) updating (transparent (file h f)) _ p in
       let n : at + length new ≤ file h f .size = ltb-false _ _ (passed _ _ _ (g .more) refl .0) in
@@ -101,7 +100,7 @@ module _ (h b : List ℕ) (s : Session) (m : Ready h b s) (f : ℕ) (c : s .curr
   updateRecord-keeps : (number mode : ℕ) (new : List ℕ) → W (updateRecord r (file h f) b s number mode new)
   unfolding updateRecord
   updateRecord-keeps number mode new =
-      guarded W _ _ _ not-written
+      guarded W _ _ _ (λ w. not-written _)
       (λ p.
       let g = record-granted r (file h f) updating (updatable mode (file h f)) _ _ p in
       let t = not-true _ (both (not (transparent (file h f))) (not (cyclic (file h f)) || eqb mode 3) (g .0) .0) in
@@ -121,7 +120,7 @@ module _ (h b : List ℕ) (s : Session) (m : Ready h b s) (f : ℕ) (c : s .curr
   increaseBy-keeps added n =
       let sum = amount b (recordAt (file h f) 1) + amount added 0 in
       let six : length (amountBytes sum ++ added) ≤ 22 = rw length-append (omega arith) in
-      guarded W _ _ _ not-written
+      guarded W _ _ _ (λ w. not-written _)
       (λ p.
       let g = granted r (file h f) counting (counter (file h f)) _ p in
       let k = counter-sound (rules h b s m f c) (g .suits) in

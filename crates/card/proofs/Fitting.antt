@@ -1,7 +1,7 @@
 -- What it says that a session fits a head, by name, and which changes of the session keep that.
 use Prim.Native.Nat.{ℕ, _-_, _<_, _≤_}
 use mathlib.Core.Path.{_≡_, refl, ap, _∙_}
-use mathlib.Core.List.{List, [], _∷_}
+use mathlib.Core.List.{List}
 use mathlib.Core.Bool.{true, _&&_}
 use lib.Dec.{eqb, ltb}
 use lib.ListN.{length, replicate}

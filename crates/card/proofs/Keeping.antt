@@ -1,19 +1,19 @@
 -- A refusal keeps what it finds: command by command, on a head and the current file's bytes.
 use Prim.Native.Nat.{ℕ, _+_, _-_, _*_, _/_, _<_}
 use mathlib.Core.Path.{_≡_, refl, sym, ap, _∙_}
-use mathlib.Core.List.{List, [], _∷_}
+use mathlib.Core.List.{List, []}
 use mathlib.Core.Bool.{Bool, true, false, _||_, not}
 use mathlib.Core.Logic.{_⊎_, inl, inr}
 use native.Mathlib.Omega.{arith}
 use lib.Dec.{eqb, ltb}
 use lib.ListN.{length, take, set}
 use lib.Seq.{set-getD, take-all}
-use borrow.Author.Tests.{eqb-true, eqb-false, eq-eqb, ne-eqb}
+use borrow.Author.Tests.{eqb-true, eqb-false, eq-eqb}
 use Rattle.card.specs.Bytes.{byte, part, splice, same}
 use Rattle.card.specs.Layout.{index, codeAt, codeEntry, file, cyclic, statusAt, topAt}
 use Rattle.card.specs.Sessions.{dropped}
 use Rattle.card.specs.Access.{rights}
-use Rattle.card.specs.Answers.{Reply, reply, refusal, first, _says_, Coded, Marked, Written, Effect, effect}
+use Rattle.card.specs.Answers.{Reply, refusal, first, Coded, Marked, Written, Effect, effect}
 use Rattle.card.specs.Select.{select, tellStatus, getResponse, findDirectory, findFile}
 use Rattle.card.specs.Binary.{readBinary, updateBinary}
 use Rattle.card.specs.Records.{readRecord, updateRecord}
@@ -77,38 +77,38 @@ module _ (r : Rights) (e : Entry) (b : List ℕ) (s : Session) where
 
   read-ends : (at n : ℕ) → Ends s Unit (readBinary r e b s at n)
   unfolding readBinary
-  read-ends at n = guarded (Ends s Unit) _ _ _ (λ w. no s w tt) (λ p. done refl)
+  read-ends at n = guarded (Ends s Unit) _ _ _ (λ w. no s _ tt) (λ p. done refl)
 
   update-ends : (at : ℕ) (new : List ℕ) → W (updateBinary r e b s at new)
   unfolding updateBinary
-  update-ends at new = guarded W _ _ _ (λ w. no s w (refl, refl)) (λ p. done refl)
+  update-ends at new = guarded W _ _ _ (λ w. no s _ (refl, refl)) (λ p. done refl)
 
   record-ends : (number mode n : ℕ) → Ends s Unit (readRecord r e b s number mode n)
   unfolding readRecord
-  record-ends number mode n = guarded (Ends s Unit) _ _ _ (λ w. no s w tt) (λ p. done refl)
+  record-ends number mode n = guarded (Ends s Unit) _ _ _ (λ w. no s _ tt) (λ p. done refl)
 
   renew-ends : (number mode : ℕ) (new : List ℕ) → W (updateRecord r e b s number mode new)
   unfolding updateRecord
   renew-ends number mode new =
-      guarded W _ _ _ (λ w. no s w (refl, refl)) (λ p. choice W (cyclic e) _ _ (λ y. done refl) (λ y. done refl))
+      guarded W _ _ _ (λ w. no s _ (refl, refl)) (λ p. choice W (cyclic e) _ _ (λ y. done refl) (λ y. done refl))
 
   seek-ends : (mode : ℕ) (pattern : List ℕ) → Ends s Unit (seekRecord r e b s mode pattern)
   unfolding seekRecord
   seek-ends mode pattern =
-      guarded (Ends s Unit) _ _ _ (λ w. no s w tt)
+      guarded (Ends s Unit) _ _ _ (λ w. no s _ tt)
       (λ p. choice (Ends s Unit) (eqb (mode / 16) 0) _ _ (λ t. done refl) (λ t. done refl))
 
   increase-ends : (added : List ℕ) → W (increaseBy r e b s added)
   unfolding increaseBy
-  increase-ends added = guarded W _ _ _ (λ w. no s w (refl, refl)) (λ p. done refl)
+  increase-ends added = guarded W _ _ _ (λ w. no s _ (refl, refl)) (λ p. done refl)
 
   invalidate-ends : M (invalidate r e s)
   unfolding invalidate
-  invalidate-ends = guarded M _ _ _ (λ w. no s w refl) (λ p. done refl)
+  invalidate-ends = guarded M _ _ _ (λ w. no s _ refl) (λ p. done refl)
 
   rehabilitate-ends : M (rehabilitate r e s)
   unfolding rehabilitate
-  rehabilitate-ends = guarded M _ _ _ (λ w. no s w refl) (λ p. done refl)
+  rehabilitate-ends = guarded M _ _ _ (λ w. no s _ refl) (λ p. done refl)
 
 -- A wrong code: in the 20 bytes of its entry only its counter is another, one less than before.
 record Fallen (e given : List ℕ) (key : Key) (k : Coded) : Type 0 where
@@ -136,7 +136,7 @@ tested-ends : (e : List ℕ) (s : Session) (c : ℕ) (key : Key) (contradicts : 
     → C e s given key (tested e s c key contradicts given renewal)
 unfolding tested
 tested-ends e s c key contradicts given renewal =
-    guarded (C e s given key) _ _ _ (λ w. no s w (inl refl))
+    guarded (C e s given key) _ _ _ (λ w. no s _ (inl refl))
     (λ p.
     choice (C e s given key) (same (value key e) given) _ _ (λ t. done refl)
     (λ t.

@@ -2,18 +2,17 @@
 use Prim.Native.Nat.{ℕ, _+_, _-_, _*_, _/_, _%_, _<_, _≤_}
 use mathlib.Core.Path.{_≡_, refl, sym, ap, _∙_}
 use mathlib.Core.List.{List, [], _∷_, _++_}
-use mathlib.Core.Bool.{Bool, true, false}
 use mathlib.Core.Logic.{_⊎_, inl, inr}
 use native.Mathlib.Omega.{arith}
 use native.Mathlib.Nat.{div-add-mod'}
-use lib.ListN.{length, take, drop, set, length-append, length-set, take-append-drop, List·getD-eq-default}
-use lib.Seq.{getD-append-seam, getD-append-add, set-append-left, length-take-le, ext-getD}
-use Rattle.card.specs.Bytes.{byte, word, part}
+use lib.ListN.{length, take, drop, set, length-append, length-set, take-append-drop}
+use lib.Seq.{getD-append-seam, getD-append-add, set-append-left, length-take-le}
+use Rattle.card.specs.Bytes.{byte, word}
 use Rattle.card.specs.Layout.{index, codeAt, file, start, head, contents}
 use Rattle.card.specs.Images.{Image}
 use Rattle.card.specs.Sessions.{dropped}
 use Rattle.card.specs.Answers.{Reply, reply, refusal, response, Effect}
-use Rattle.card.specs.Codes.{Key, chv, unblocking, value, attemptsAt}
+use Rattle.card.specs.Codes.{value, attemptsAt}
 use Rattle.card.specs.Forms.{instructionOf}
 use Rattle.card.specs.Play.{Outcome, declined, told, opened, headed, filled, afterwards, done}
 use Rattle.card.specs.Demands.{Answered, AlwaysAnswered, statusWord, carriedOut, Lowered, Refused, Untouched, RefusalsKeep}
@@ -21,12 +20,12 @@ use Rattle.card.specs.declared.Session.{Session}
 use Rattle.card.specs.declared.Current.{Current}
 use Rattle.card.specs.declared.Current.the-variants.{Nothing, File}
 use Rattle.card.proofs.Tests.{apart}
-use Rattle.card.proofs.Parts.{splice-self, part-at, length-part}
+use Rattle.card.proofs.Parts.{splice-self}
 use Rattle.card.proofs.Frames.{placed}
 use Rattle.card.proofs.Images.{image}
 use Rattle.card.proofs.Heads.{head-agree, head-length, head-part}
-use Rattle.card.proofs.Walk.{effectOf, Formed, by-play}
-use Rattle.card.proofs.Keeping.{Ends, done as carried, kept, Fell, within, E, ends}
+use Rattle.card.proofs.Walk.{effectOf, by-play}
+use Rattle.card.proofs.Keeping.{done as carried, kept, Fell, within, E, ends}
 
 pub alwaysAnswered : AlwaysAnswered
 alwaysAnswered l s c room =

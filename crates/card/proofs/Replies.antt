@@ -15,7 +15,7 @@ use Rattle.card.specs.Answers.{Reply, reply, refusal, Effect, effect, fi
 use Rattle.card.specs.Access.{shared}
 use Rattle.card.specs.Select.{select, tellStatus, getResponse, directoryResponse, fileResponse, named, findDirectory, findFile, firstPointer}
 use Rattle.card.specs.Binary.{readBinary}
-use Rattle.card.specs.Records.{readRecord, chosen, ofRecord, moved}
+use Rattle.card.specs.Records.{readRecord, ofRecord, moved}
 use Rattle.card.specs.Seek.{seekRecord, sought}
 use Rattle.card.specs.declared.Entry.{Entry}
 use Rattle.card.specs.declared.Rights.{Rights}

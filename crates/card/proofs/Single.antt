@@ -9,12 +9,10 @@ use borrow.Author.Tests.{eqb-true, eq-eqb, ltb-true, ltb-false}
 use Rattle.card.specs.Layout.{index, directory, file, head}
 use Rattle.card.specs.Shelf.{within, twinFiles}
 use Rattle.card.specs.Images.{SoundHead}
-use Rattle.card.specs.Sessions.{fits}
 use Rattle.card.specs.Select.{leads, named, findDirectory, findFile, select}
 use Rattle.card.specs.Answers.{Reply}
 use Rattle.card.specs.Demands.{Target, toDirectory, toFile, Selects, OneAnswer, Entered, SelectEnters}
 use Rattle.card.specs.declared.Entry.{Entry}
-use Rattle.card.specs.declared.Session.{Session}
 use Rattle.card.specs.declared.Current.the-variants.{File}
 use Rattle.card.proofs.Tests.{both, joint, apart, Order, less, equal, more, order}
 use Rattle.card.proofs.Images.{image}
