@@ -9,7 +9,7 @@ use lib.ListN.{length, take, drop, set, length-set, length-drop}
 use lib.Seq.{getD-set-same, getD-set-other}
 use borrow.Author.Tests.{eqb-true, eqb-false, not-false}
 use Rattle.card.specs.Bytes.{same}
-use Rattle.card.specs.Layout.{codeEntry, disabled}
+use Rattle.card.specs.Layout.{codeEntry}
 use Rattle.card.specs.Sessions.{dropped}
 use Rattle.card.specs.Answers.{Coded, first, _says_}
 use Rattle.card.specs.Codes.{Key, chv, unblocking, value, attemptsLeft, attemptsAt, ready, renewed, tested, verify, change, disable, enable, unblock}
@@ -62,11 +62,12 @@ fallen-sound c e unblocking r =
     }
 
 module _ (h : List ℕ) (s : Session) (g : Fits h (dropped s)) (c : ℕ) (e : List ℕ) (r : SoundEntry c e) where
-  pub tested-keeps : (key : Key) (contradicts : Bool) (given renewal : List ℕ) → (contradicts ≡ false → SoundEntry c renewal)
-      → Tested h c (tested e s c key contradicts given renewal)
+  pub tested-keeps : (x : Coded) (key : Key) (contradicts : Bool) (given renewal : List ℕ) → x ≡ tested e s c key contradicts given renewal
+      → (contradicts ≡ false → SoundEntry c renewal)
+      → Tested h c x
   unfolding tested
-  tested-keeps key contradicts given renewal k =
-      guarded (Tested h c) _ _ _ (λ w. record { entry = r; session = g })
+  tested-keeps x key contradicts given renewal q k =
+      guarded (Tested h c) x _ _ _ q (λ w. record { entry = r; session = g })
       (λ p.
       choice (Tested h c) (same (value key e) given) _ _
       (λ t. record { entry = k (contradicted p); session = fits-presents h (dropped s) g c })
@@ -85,20 +86,20 @@ module _ (h : List ℕ) (s : Session) (g : Fits h (dropped s)) (c : ℕ) (e : Li
   pub verify-keeps : (given : List ℕ) → Tested h c (verify e s c given)
   unfolding verify
   verify-keeps given =
-      tested-keeps chv _ given _
+      tested-keeps (verify e s c given) chv _ given _ refl
       (λ u. renewed-sound c e _ _ (value chv e) (r .long) value-length (r .code .flags) (r .code .unblocks))
 
   pub change-keeps : (given : List ℕ) → length given ≡ 16 → Tested h c (change e s c given)
   unfolding change
   change-keeps given z =
-      tested-keeps chv _ (take 8 given) _
-      (λ (u : disabled (codeEntry e 0) ≡ false).
+      tested-keeps (change e s c given) chv _ (take 8 given) _ refl
+      (λ u.
       renewed-sound c e _ _ (drop 8 given) (r .long) (simp length-drop (omega arith)) (r .code .flags) (r .code .unblocks))
 
   pub disable-keeps : (given : List ℕ) → c ≡ 0 → Tested h c (disable e s c given)
   unfolding disable
   disable-keeps given z =
-      tested-keeps chv _ given _
+      tested-keeps (disable e s c given) chv _ given _ refl
       (λ u.
       let k = r .code .flags in
       let v = eqb-false (codeEntry e 0 .flags % 2) 1 u in
@@ -107,7 +108,7 @@ module _ (h : List ℕ) (s : Session) (g : Fits h (dropped s)) (c : ℕ) (e : Li
   pub enable-keeps : (given : List ℕ) → Tested h c (enable e s c given)
   unfolding enable
   enable-keeps given =
-      tested-keeps chv _ given _
+      tested-keeps (enable e s c given) chv _ given _ refl
       (λ u.
       let k = r .code .flags in
       let v = eqb-true (codeEntry e 0 .flags % 2) 1 (not-false _ u) in
@@ -116,7 +117,7 @@ module _ (h : List ℕ) (s : Session) (g : Fits h (dropped s)) (c : ℕ) (e : Li
   pub unblock-keeps : (given : List ℕ) → length given ≡ 16 → Tested h c (unblock e s c given)
   unfolding unblock
   unblock-keeps given z =
-      tested-keeps unblocking false (take 8 given) _
+      tested-keeps (unblock e s c given) unblocking _ (take 8 given) _ refl
       (λ u.
       let k = r .code .flags in
       renewed-sound c e (codeEntry e 0 .flags - codeEntry e 0 .flags % 2) 10 (drop 8 given) (r .long) (simp length-drop (omega arith)) (omega arith) (omega arith))

@@ -1,6 +1,6 @@
 -- Each command keeps the head sound, the number of the file's bytes, and a session that fits.
 use Prim.Native.Nat.{ℕ, _+_, _-_, _*_, _%_, _<_, _≤_}
-use mathlib.Core.Path.{_≡_, refl, sym, _∙_}
+use mathlib.Core.Path.{_≡_, refl, sym, ap, _∙_}
 use mathlib.Core.List.{List, [], _++_}
 use mathlib.Core.Bool.{true, false, _||_, not}
 use native.Mathlib.Omega.{arith}
@@ -12,7 +12,7 @@ use Rattle.card.specs.Bytes.{part, splice}
 use Rattle.card.specs.Layout.{codeAt, file, transparent, cyclic, counter, records}
 use Rattle.card.specs.Images.{SoundStatus, SoundTop}
 use Rattle.card.specs.Sessions.{fits, dropped, points}
-use Rattle.card.specs.Answers.{Reply, refusal, Coded, Marked, Written, written, effect, first}
+use Rattle.card.specs.Answers.{Reply, refusal, Coded, Marked, Written, effect, first}
 use Rattle.card.specs.Binary.{binary, updateBinary}
 use Rattle.card.specs.Records.{updateRecord, recordAt, pushed, updatable}
 use Rattle.card.specs.Increase.{increaseBy, amount, amountBytes}
@@ -55,13 +55,13 @@ module _ (h b : List ℕ) (s : Session) (m : Ready h b s) (f : ℕ) (c : s .curr
   top-now : SoundTop (file h f) (file h f .top)
   top-now = rules h b s m f c .top
 
-  not-written : (w : ℕ) → W (written b (file h f .top) (refusal s w))
-  not-written w = record { top = top-now; contents = refl; session = dropped-fits h b s m }
+  not-written : (w : Written) → w .top ≡ file h f .top → w .contents ≡ b → w .given .session ≡ dropped s → W w
+  not-written w t x g = record { top = rw t top-now; contents = ap length x; session = rw g (dropped-fits h b s m) }
 
   updateBinary-keeps : (at : ℕ) (new : List ℕ) → W (updateBinary r (file h f) b s at new)
   unfolding updateBinary binary
   updateBinary-keeps at new =
-      guarded W _ _ _ (λ w. not-written _)
+      guarded W (updateBinary r (file h f) b s at new) _ _ _ refl (λ w. not-written _ refl refl refl)
       (λ p.
       let g = granted r (file h f) updating (transparent (file h f)) _ p in
       let n : at + length new ≤ file h f .size = ltb-false _ _ (passed _ _ _ (g .more) refl .0) in
@@ -100,7 +100,7 @@ module _ (h b : List ℕ) (s : Session) (m : Ready h b s) (f : ℕ) (c : s .curr
   updateRecord-keeps : (number mode : ℕ) (new : List ℕ) → W (updateRecord r (file h f) b s number mode new)
   unfolding updateRecord
   updateRecord-keeps number mode new =
-      guarded W _ _ _ (λ w. not-written _)
+      guarded W (updateRecord r (file h f) b s number mode new) _ _ _ refl (λ w. not-written _ refl refl refl)
       (λ p.
       let g = record-granted r (file h f) updating (updatable mode (file h f)) _ _ p in
       let t = not-true _ (both (not (transparent (file h f))) (not (cyclic (file h f)) || eqb mode 3) (g .0) .0) in
@@ -120,20 +120,20 @@ module _ (h b : List ℕ) (s : Session) (m : Ready h b s) (f : ℕ) (c : s .curr
   increaseBy-keeps added n =
       let sum = amount b (recordAt (file h f) 1) + amount added 0 in
       let six : length (amountBytes sum ++ added) ≤ 22 = rw length-append (omega arith) in
-      guarded W _ _ _ (λ w. not-written _)
+      guarded W (increaseBy r (file h f) b s added) _ _ _ refl (λ w. not-written _ refl refl refl)
       (λ p.
       let g = granted r (file h f) counting (counter (file h f)) _ p in
       let k = counter-sound (rules h b s m f c) (g .suits) in
       pushed-keeps (amountBytes sum) _ (k .0) (sym (k .1))
       (fits-waits h _ (first-record s (m .fits) c (k .0)) (amountBytes sum ++ added) six))
 
-  not-marked : (w : ℕ) → Changed h (record { given = refusal s w; status = file h f .status })
-  not-marked w = record { status = rules h b s m f c .status; session = dropped-fits h b s m }
+  not-marked : (w : Marked) → w .status ≡ file h f .status → w .given .session ≡ dropped s → Changed h w
+  not-marked w t g = record { status = rw t (rules h b s m f c .status); session = rw g (dropped-fits h b s m) }
 
   invalidate-keeps : Changed h (invalidate r (file h f) s)
   unfolding invalidate
   invalidate-keeps =
-      guarded (Changed h) _ _ _ not-marked
+      guarded (Changed h) (invalidate r (file h f) s) _ _ _ refl (λ w. not-marked _ refl refl)
       (λ p.
       let g = granted r (file h f) invalidating true [] p in
       let v = eqb-true (file h f .status % 2) 1 (not-false _ (g .clear)) in
@@ -143,7 +143,7 @@ module _ (h b : List ℕ) (s : Session) (m : Ready h b s) (f : ℕ) (c : s .curr
   rehabilitate-keeps : Changed h (rehabilitate r (file h f) s)
   unfolding rehabilitate
   rehabilitate-keeps =
-      guarded (Changed h) _ _ _ not-marked
+      guarded (Changed h) (rehabilitate r (file h f) s) _ _ _ refl (λ w. not-marked _ refl refl)
       (λ p.
       let g = granted r (file h f) rehabilitating true [] p in
       let v = eqb-false (file h f .status % 2) 1 (g .clear) in

@@ -44,9 +44,6 @@ so : {s : Session} {A B : Type 0} {r : Reply} → (A → B) → Ends s A r → E
 so f (done w) = done w
 so f (kept b t a) = kept b t (f a)
 
-no : {A : Type 0} (s : Session) (w : ℕ) → A → Ends s A (refusal s w)
-no s w a = kept refl (inr refl) a
-
 -- Commands that leave the card as it is, and commands on a file: a refusal leaves its bytes, its top and its status.
 module _ (h : List ℕ) (s : Session) where
   abbrev R : Reply → Type 0
@@ -56,7 +53,7 @@ module _ (h : List ℕ) (s : Session) where
   unfolding select
   select-ends id =
       choice R (ltb (findDirectory h (s .directory) id) (index h .directories)) _ _ (λ t. done refl)
-      (λ t. choice R (ltb (findFile h (s .directory) id) (index h .files)) _ _ (λ u. done refl) (λ u. no s _ tt))
+      (λ t. choice R (ltb (findFile h (s .directory) id) (index h .files)) _ _ (λ u. done refl) (λ u. kept refl (inr refl) tt))
 
   status-ends : (n : ℕ) → R (tellStatus h s n)
   unfolding tellStatus
@@ -65,7 +62,7 @@ module _ (h : List ℕ) (s : Session) where
   response-ends : (n : ℕ) → R (getResponse s n)
   unfolding getResponse
   response-ends n =
-      choice R (eqb (s .count) 0) _ _ (λ t. no s _ tt)
+      choice R (eqb (s .count) 0) _ _ (λ t. kept refl (inr refl) tt)
       (λ t. choice R (eqb n 0 || ltb (s .count) n) _ _ (λ u. kept refl (inl refl) tt) (λ u. done refl))
 
 module _ (r : Rights) (e : Entry) (b : List ℕ) (s : Session) where
@@ -77,38 +74,38 @@ module _ (r : Rights) (e : Entry) (b : List ℕ) (s : Session) where
 
   read-ends : (at n : ℕ) → Ends s Unit (readBinary r e b s at n)
   unfolding readBinary
-  read-ends at n = guarded (Ends s Unit) _ _ _ (λ w. no s _ tt) (λ p. done refl)
+  read-ends at n = guarded (Ends s Unit) (readBinary r e b s at n) _ _ _ refl (λ w. kept refl (inr refl) tt) (λ p. done refl)
 
   update-ends : (at : ℕ) (new : List ℕ) → W (updateBinary r e b s at new)
   unfolding updateBinary
-  update-ends at new = guarded W _ _ _ (λ w. no s _ (refl, refl)) (λ p. done refl)
+  update-ends at new = guarded W (updateBinary r e b s at new) _ _ _ refl (λ w. kept refl (inr refl) (refl, refl)) (λ p. done refl)
 
   record-ends : (number mode n : ℕ) → Ends s Unit (readRecord r e b s number mode n)
   unfolding readRecord
-  record-ends number mode n = guarded (Ends s Unit) _ _ _ (λ w. no s _ tt) (λ p. done refl)
+  record-ends number mode n = guarded (Ends s Unit) (readRecord r e b s number mode n) _ _ _ refl (λ w. kept refl (inr refl) tt) (λ p. done refl)
 
   renew-ends : (number mode : ℕ) (new : List ℕ) → W (updateRecord r e b s number mode new)
   unfolding updateRecord
   renew-ends number mode new =
-      guarded W _ _ _ (λ w. no s _ (refl, refl)) (λ p. choice W (cyclic e) _ _ (λ y. done refl) (λ y. done refl))
+      guarded W (updateRecord r e b s number mode new) _ _ _ refl (λ w. kept refl (inr refl) (refl, refl)) (λ p. choice W (cyclic e) _ _ (λ y. done refl) (λ y. done refl))
 
   seek-ends : (mode : ℕ) (pattern : List ℕ) → Ends s Unit (seekRecord r e b s mode pattern)
   unfolding seekRecord
   seek-ends mode pattern =
-      guarded (Ends s Unit) _ _ _ (λ w. no s _ tt)
+      guarded (Ends s Unit) (seekRecord r e b s mode pattern) _ _ _ refl (λ w. kept refl (inr refl) tt)
       (λ p. choice (Ends s Unit) (eqb (mode / 16) 0) _ _ (λ t. done refl) (λ t. done refl))
 
   increase-ends : (added : List ℕ) → W (increaseBy r e b s added)
   unfolding increaseBy
-  increase-ends added = guarded W _ _ _ (λ w. no s _ (refl, refl)) (λ p. done refl)
+  increase-ends added = guarded W (increaseBy r e b s added) _ _ _ refl (λ w. kept refl (inr refl) (refl, refl)) (λ p. done refl)
 
   invalidate-ends : M (invalidate r e s)
   unfolding invalidate
-  invalidate-ends = guarded M _ _ _ (λ w. no s _ refl) (λ p. done refl)
+  invalidate-ends = guarded M (invalidate r e s) _ _ _ refl (λ w. kept refl (inr refl) refl) (λ p. done refl)
 
   rehabilitate-ends : M (rehabilitate r e s)
   unfolding rehabilitate
-  rehabilitate-ends = guarded M _ _ _ (λ w. no s _ refl) (λ p. done refl)
+  rehabilitate-ends = guarded M (rehabilitate r e s) _ _ _ refl (λ w. kept refl (inr refl) refl) (λ p. done refl)
 
 -- A wrong code: in the 20 bytes of its entry only its counter is another, one less than before.
 record Fallen (e given : List ℕ) (key : Key) (k : Coded) : Type 0 where
@@ -136,7 +133,7 @@ tested-ends : (e : List ℕ) (s : Session) (c : ℕ) (key : Key) (contradicts : 
     → C e s given key (tested e s c key contradicts given renewal)
 unfolding tested
 tested-ends e s c key contradicts given renewal =
-    guarded (C e s given key) _ _ _ (λ w. no s _ (inl refl))
+    guarded (C e s given key) (tested e s c key contradicts given renewal) _ _ _ refl (λ w. kept refl (inr refl) (inl refl))
     (λ p.
     choice (C e s given key) (same (value key e) given) _ _ (λ t. done refl)
     (λ t.
@@ -178,7 +175,7 @@ module _ (h b : List ℕ) (s : Session) (i : Instruction) (q : ℕ) (d : List �
   told = so (λ u. (refl, inl refl))
 
   fileless : E (effect h b (refusal s 0x9400))
-  fileless = told (no s _ tt)
+  fileless = told (kept refl (inr refl) tt)
 
   read : (command : Rights → Entry → Reply) → ((r : Rights) (e : Entry) → Ends s Unit (command r e)) → E (byFile reads h b s command)
   read command p = ofFile E h (s .current) _ _ fileless (λ f c. told (p _ _))
@@ -245,4 +242,4 @@ ends h b s Invalidate p q n d f z = marked h b s Invalidate q d _ (λ r e. inval
 ends h b s Rehabilitate p q n d f z = marked h b s Rehabilitate q d _ (λ r e. rehabilitate-ends r e b s)
 ends h b s Sleep p q n d f z = done refl
 ends h b s GetResponse p q n d f z = told h b s GetResponse q d (response-ends h s n)
-ends h b s Unknown p q n d f z = told h b s Unknown q d (no s _ tt)
+ends h b s Unknown p q n d f z = told h b s Unknown q d (kept refl (inr refl) tt)

@@ -134,7 +134,7 @@ module _ (h b : List ℕ) (s : Session) (m : Ready h b s) where
   module _ (f : ℕ) (c : s .current ≡ File f) (r : Rights) where
     pub readBinary-fits : (at n : ℕ) → Told h (readBinary r (file h f) b s at n)
     unfolding readBinary
-    readBinary-fits at n = guarded (Told h) _ _ _ (λ w. dropped-fits) (λ p. dropped-fits)
+    readBinary-fits at n = guarded (Told h) (readBinary r (file h f) b s at n) _ _ _ refl (λ w. dropped-fits) (λ p. dropped-fits)
 
     pub moved-fits : (mode k : ℕ) → transparent (file h f) ≡ false → 0 < k → k ≤ records (file h f) → Fits h (moved mode k (dropped s))
     moved-fits mode k t a z =
@@ -143,7 +143,7 @@ module _ (h b : List ℕ) (s : Session) (m : Ready h b s) where
     pub readRecord-fits : (number mode n : ℕ) → Told h (readRecord r (file h f) b s number mode n)
     unfolding readRecord
     readRecord-fits number mode n =
-        guarded (Told h) _ _ _ (λ w. dropped-fits)
+        guarded (Told h) (readRecord r (file h f) b s number mode n) _ _ _ refl (λ w. dropped-fits)
         (λ p.
         let g = record-granted r (file h f) reading _ _ _ p in
         let t = not-true _ (g .0) in
@@ -151,7 +151,7 @@ module _ (h b : List ℕ) (s : Session) (m : Ready h b s) where
 
     pub seekRecord-fits : (mode : ℕ) (pattern : List ℕ) → Told h (seekRecord r (file h f) b s mode pattern)
     unfolding seekRecord
-    seekRecord-fits mode pattern = guarded (Told h) _ _ _ (λ w. dropped-fits) go
+    seekRecord-fits mode pattern = guarded (Told h) (seekRecord r (file h f) b s mode pattern) _ _ _ refl (λ w. dropped-fits) go
       where
         found : ℕ
         found = sought b (file h f .width) (records (file h f)) pattern (mode % 16) (s .pointer)
