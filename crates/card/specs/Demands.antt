@@ -89,8 +89,8 @@ abbrev pub StaysImage : Type 0
 StaysImage =
     (l : List ℕ) (s : Session) (c : List ℕ) (room : ℕ) → isImage l ≡ true → fits (head l) s ≡ true → Sound (play l s c room)
 
--- So a run from a reset never meets 1 or 2: a session just reset fits every image, and after each command of the run the same holds.
--- A run is of commands, each with the room for its response.
+-- So a run from a reset never meets 1 or 2: a session just reset fits every image, and the same holds of each outcome of the run. A run
+-- is of commands, each with the room for its response.
 abbrev pub Commands : Type 0
 Commands = List (List ℕ × ℕ)
 
@@ -122,7 +122,7 @@ pub record Closed (l : List ℕ) (s : Session) (f : ℕ) : Type 0 where
   pub unread : allowed (rights (head l) s) (file l f) Read ≡ false
   pub uncounted : (counter (file l f) ≡ false) ⊎ (allowed (rights (head l) s) (file l f) Increase ≡ false)
 
--- So it is with every file that X names; and so it is at each command of a run, in the state before it.
+-- `Shut`: so it is with every file that X names. `ShutThrough`: so it is at each command of a run, in the state before that command.
 abbrev pub Shut : (ℕ → Bool) → List ℕ → Session → Type 0
 Shut X l s = (f : ℕ) → f < index l .files → X f ≡ true → Closed l s f
 
@@ -131,8 +131,8 @@ ShutThrough X l s [] = Unit
 ShutThrough X l s (c ∷ cs) =
     Shut X l s × ShutThrough X (play l s (c .0) (c .1) .image) (play l s (c .0) (c .1) .session) cs
 
--- Two outcomes of one command: the same host's answer, response and session, and images that differ only inside those files. So it may
--- be with two runs of the same commands, command by command.
+-- Two outcomes are the same but for hidden bytes: the same host's answer, response and session, and images that differ only inside those
+-- files. `Throughout`: so it is with two runs, command by command.
 pub record Indistinct (X : ℕ → Bool) (o o′ : Outcome) : Type 0 where
   pub host : o .host ≡ o′ .host
   pub response : o .response ≡ o′ .response
@@ -145,9 +145,9 @@ Throughout X [] (o′ ∷ os′) = ⊥
 Throughout X (o ∷ os) [] = ⊥
 Throughout X (o ∷ os) (o′ ∷ os′) = Indistinct X o o′ × Throughout X os os′
 
--- Take two images alike but for some files, and run the same commands, with the same rooms, on both from a reset. If those files are
--- closed at each command of the run on the first, then every answer, response and session is equal on both, and the images still differ
--- only inside those files. The same from any session, and of one command.
+-- Take two images alike but for the bytes of some files, and run the same commands, with the same rooms, on both from a reset. If at each
+-- command of the run on the first those files are closed, then every answer, response and session is equal on both, and the images still
+-- differ only inside those files (`Hidden`). The same holds from any session (`HiddenRun`), and of one command (`HiddenStep`).
 abbrev pub HiddenStep : Type 0
 HiddenStep =
     (X : ℕ → Bool) (l l′ : List ℕ) (s : Session) (c : List ℕ) (room : ℕ) → Apart X l l′ → Shut X l s
