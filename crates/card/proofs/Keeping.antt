@@ -163,9 +163,9 @@ pub record Fell (h : List ℕ) (i : Instruction) (q : ℕ) (d : List ℕ) (e : E
   pub head : e .head ≡ set h (codeAt number + attemptsAt key) left
   pub tells : e .given .word ≡ elim (eqb left 0) [ true ↦ 0x9840 | false ↦ 0x9804 ]
 
-pub within : (key : Key) → attemptsAt key < 20
-within chv = omega arith
-within unblocking = omega arith
+pub counter-in : (key : Key) → attemptsAt key < 20
+counter-in chv = omega arith
+counter-in unblocking = omega arith
 
 module _ (h b : List ℕ) (s : Session) (i : Instruction) (q : ℕ) (d : List ℕ) where
   abbrev pub E : Effect → Type 0
@@ -208,8 +208,8 @@ module _ (h b : List ℕ) (s : Session) (i : Instruction) (q : ℕ) (d : List �
               tries = t;
               exists = n;
               wrong = λ w. f .wrong (w ∙ sym g);
-              before = sym (part-at h (codeAt c) 20 (attemptsAt key) (within key)) ∙ f .before;
-              head = ap (splice h (codeAt c) 20) (f .entry) ∙ splice-set h (codeAt c) 20 (attemptsAt key) (f .left) (within key);
+              before = sym (part-at h (codeAt c) 20 (attemptsAt key) (counter-in key)) ∙ f .before;
+              head = ap (splice h (codeAt c) 20) (f .entry) ∙ splice-set h (codeAt c) 20 (attemptsAt key) (f .left) (counter-in key);
               tells = f .tells;
             }),
       )

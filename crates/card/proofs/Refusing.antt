@@ -25,7 +25,7 @@ use Rattle.card.proofs.Frames.{placed}
 use Rattle.card.proofs.Images.{image}
 use Rattle.card.proofs.Heads.{head-agree, head-length, head-part}
 use Rattle.card.proofs.Walk.{effectOf, by-play}
-use Rattle.card.proofs.Keeping.{done as carried, kept, Fell, within, E, ends}
+use Rattle.card.proofs.Keeping.{done as carried, kept, Fell, counter-in, E, ends}
 
 pub alwaysAnswered : AlwaysAnswered
 alwaysAnswered l s c room =
@@ -108,7 +108,7 @@ module _ (l : List ℕ) (s : Session) (c : List ℕ) where
           lowered : Lowered l c (done l (s .current) e)
           lowered =
               let i = in-head in
-              let k = within (f .key) in
+              let k = counter-in (f .key) in
               record {
                 key = f .key;
                 number = f .number;
