@@ -1,10 +1,10 @@
 -- Which bytes of a list an index, a code, a directory and a file are read from.
-use Prim.Native.Nat.{ℕ, _+_, _*_}
-use mathlib.Core.Path.{_≡_, ap, _∙_}
+use Prim.Native.Nat.{ℕ, _+_, _*_, _<_}
+use mathlib.Core.Path.{_≡_, refl, ap, _∙_}
 use mathlib.Core.List.{List}
 use native.Mathlib.Omega.{arith}
-use Rattle.card.specs.Bytes.{word}
-use Rattle.card.specs.Layout.{index, indexWith, codeEntry, code, codeAt, directoryEntry, directory, directoryAt, fileEntry, file, fileAt}
+use Rattle.card.specs.Bytes.{byte, word}
+use Rattle.card.specs.Layout.{index, indexWith, codeEntry, code, codeAt, directoryEntry, directory, directoryAt, fileEntry, file, fileAt, statusAt, topAt}
 use Rattle.card.specs.declared.Index.{Index}
 use Rattle.card.specs.declared.Entry.{Entry}
 use Rattle.card.proofs.Parts.{Agree, narrow}
@@ -36,16 +36,22 @@ index-by l l′ g = λ i. indexWith (p i) (q i) (r i)
         ∙ (λ i. word l′ (4 + 20 * p i + 8 * q i))
 
 -- Codes, directories and files are read from the bytes of their entries.
-pub code-by : {l l′ : List ℕ} (c : ℕ) → Agree (codeAt c) (codeAt c + 4) l l′ → code l c ≡ code l′ c
-unfolding code codeEntry
-code-by c g =
+pub codeEntry-by : (l l′ : List ℕ) (at at′ : ℕ) → ((k : ℕ) → k < 4 → byte l (at + k) ≡ byte l′ (at′ + k)) → codeEntry l at ≡ codeEntry l′ at′
+unfolding codeEntry
+codeEntry-by l l′ at at′ g =
+    let z : at ≡ at + 0 = omega arith in
+    let z′ : at′ + 0 ≡ at′ = omega arith in
     λ i.
     record {
-      flags = g .at (codeAt c) (omega arith) (omega arith) i;
-      attempts = g .at (codeAt c + 1) (omega arith) (omega arith) i;
-      unblocks = g .at (codeAt c + 2) (omega arith) (omega arith) i;
-      spare = g .at (codeAt c + 3) (omega arith) (omega arith) i;
+      flags = (ap (byte l) z ∙ g 0 (omega arith) ∙ ap (byte l′) z′) i;
+      attempts = g 1 (omega arith) i;
+      unblocks = g 2 (omega arith) i;
+      spare = g 3 (omega arith) i;
     }
+
+pub code-by : {l l′ : List ℕ} (c : ℕ) → Agree (codeAt c) (codeAt c + 4) l l′ → code l c ≡ code l′ c
+unfolding code
+code-by {l} {l′} c g = codeEntry-by l l′ (codeAt c) (codeAt c) (λ k h. g .at (codeAt c + k) (omega arith) (omega arith))
 
 pub directoryEntry-by : {l l′ : List ℕ} (at : ℕ) → Agree at (at + 8) l l′ → directoryEntry l at ≡ directoryEntry l′ at
 unfolding directoryEntry
@@ -110,3 +116,12 @@ file-by l l′ f e g =
     marked-by at _ _ (narrow g (omega arith) (omega arith)) (narrow g (omega arith) (omega arith)) (narrow g (omega arith) (omega arith))
     ∙ (λ i. marked (fileEntry l′ at) (g .at (at + 9) (omega arith) (omega arith) i) (g .at (at + 12) (omega arith) (omega arith) i))
     ∙ ap (λ (x : Index). fileEntry l′ (fileAt x f)) e
+
+-- where a file's status and top stand
+pub status-byte : (l : List ℕ) (f : ℕ) → file l f .status ≡ byte l (statusAt (index l) f)
+unfolding file fileEntry
+status-byte l f = refl
+
+pub top-byte : (l : List ℕ) (f : ℕ) → file l f .top ≡ byte l (topAt (index l) f)
+unfolding file fileEntry
+top-byte l f = refl

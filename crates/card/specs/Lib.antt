@@ -14,3 +14,4 @@ pub mod Marks
 pub mod Codes
 pub mod Play
 pub mod Images
+pub mod Demands
