@@ -166,6 +166,11 @@ function shortened(text) {
     return length(text) > 40 ? substr(text, 1, 40) ".." : text
 }
 
+# A character for a message.
+function shown(character) {
+    return character ~ /[!-~]/ ? "`" character "`" : "a character that is not of ASCII"
+}
+
 # A word of the shell that stands for the text, whatever it holds.
 function quoted(text,   count, parts, i, word) {
     count = split(text, parts, "'")
@@ -181,7 +186,7 @@ function digits_of(text, where, at) {
     if (text == "-")
         return ""
     if (match(text, /[^0-9A-Fa-f]/)) {
-        mistake(where, at, "`" substr(text, RSTART, 1) "` is no hexadecimal digit: bytes are written with 0 to 9 and A to F, and a comment starts with `#`")
+        mistake(where, at, shown(substr(text, RSTART, 1)) " is no hexadecimal digit: bytes are written with 0 to 9 and A to F, and a comment starts with `#`")
         return ""
     }
     if (length(text) % 2) {
