@@ -10,6 +10,7 @@ BEGIN {
     HOST[1] = "not an image of the shelf form"
     HOST[2] = "the session does not fit the image"
     HOST[3] = "the response room is under 258 bytes"
+    HOST[4] = "under 5 command bytes, or not the data bytes that P3 tells"
 
     WORDS["9000"] = "done"
     WORDS["9240"] = "memory problem"
@@ -128,7 +129,9 @@ function host_words(host, command,   data, p3) {
         return "the command has under 5 bytes"
     data = length(command) / 2 - 5
     p3 = number(substr(command, 9, 2))
-    if (index(sends, " " substr(command, 3, 2) " "))
+    if (!index(sends, " " substr(command, 3, 2) " ") && data)
+        return counted(data, "data byte") " where the command sends none"
+    if (index(sends, " " substr(command, 3, 2) " ") && data != p3)
         return counted(data, "data byte") " where P3 tells " p3
-    return counted(data, "data byte") " where the command sends none"
+    return HOST[4]
 }
