@@ -56,10 +56,10 @@ none {l = l} {s} leave command r c {t} e room =
     (tells r (card.refusal s 0x9400) t room room (record { reply = e; room = refl }))
 
 module _ {l : List ℕ} {s : Session} {f : ℕ} {p : Place} (h : Here l s f p) where
-  abbrev span : ℕ
+  abbrev pub span : ℕ
   span = p .end - p .start
 
-  bytes : part l (p .start) span ≡ opened l (s .current)
+  pub bytes : part l (p .start) span ≡ opened l (s .current)
   unfolding place contents
   bytes = rw (h .current) (simp (h .is, add-sub-cancel-left))
 
@@ -96,7 +96,7 @@ module _ {l : List ℕ} {s : Session} {f : ℕ} {p : Place} (h : Here l s f p) w
       ∙ ap (λ (e : Entry). command (rights (head l) s) e (opened l (s .current))) (sym (file-head l f (h .among)))
 
   -- an effect on file f is the effect of the command on the current file
-  carried : {A : Type 0} (leave : List ℕ → List ℕ → ℕ → A → card.Effect) (command : Rights → Entry → List ℕ → A) (t : Reply) (image was is : List ℕ)
+  pub carried : {A : Type 0} (leave : List ℕ → List ℕ → ℕ → A → card.Effect) (command : Rights → Entry → List ℕ → A) (t : Reply) (image was is : List ℕ)
       → Leaves (leave (head l) (opened l (s .current)) f (command (p .rights) (p .entry) (part l (p .start) span))) l s t image was is
       → Leaves (byFile leave (head l) (opened l (s .current)) s (λ r e. command r e (opened l (s .current)))) l s t image was is
   carried leave command t image was is g =
@@ -110,3 +110,9 @@ module _ {l : List ℕ} {s : Session} {f : ℕ} {p : Place} (h : Here l s f p) w
       → given.Gives (command (p .rights) (p .entry) (part l (p .start) span)) t was is
       → Reads command l s t was is
   hasRead command {t} {was} {is} g = carried reads command t l was is (tells (h .ready) _ t was is g)
+
+  -- a word alone, for every room
+  pub hasSaid : (command : Rights → Entry → List ℕ → card.Reply) {t : Reply}
+      → given.Says (command (p .rights) (p .entry) (part l (p .start) span)) t
+      → (room : List ℕ) → Reads command l s t room room
+  hasSaid command g room = hasRead command (quiet g room)

@@ -1,16 +1,26 @@
-// The commands on the current file: its entry is read once, and its bytes are passed on as a part of the image.
+// The commands that read or write the current file's bytes: its entry is read once, and its bytes are passed on as a part of the image.
+// Only this player's crates call them, with what Ready asks tested. Without a current file each answers 94 00.
 use crate::stand::stand;
 use card::Current;
 use card::Session;
 use commands::answers::Reply;
 use commands::answers::refusal;
 use commands_files::binary;
-ghost use Prim.Native.Nat.{_≤_};
+use commands_files::increase;
+use commands_files::records;
+use commands_files::seek;
+ghost use mathlib.Core.List.{List};
+ghost use mathlib.Core.Path.{_≡_};
+ghost use Prim.Native.Nat.{ℕ, _≤_};
 ghost use lib.ListN.{length};
-ghost use Rattle.card.specs.Binary.{readBinary};
-ghost use Rattle.acts.specs.Leaves.{Reads};
+ghost use Rattle.card.specs.Binary.{readBinary, updateBinary};
+ghost use Rattle.card.specs.Increase.{increaseBy};
+ghost use Rattle.card.specs.Records.{readRecord, updateRecord};
+ghost use Rattle.card.specs.Seek.{seekRecord};
+ghost use Rattle.acts.specs.Leaves.{Reads, Writes};
 ghost use Rattle.acts.specs.Ready.{Ready};
 
+// Only this player's crates call it.
 pub fn read_binary(image: &[u8], s: Session, at: usize, n: usize, room: &mut [u8]) -> Reply
     requires { ⌜ Ready (now image) s ⌝ }
     requires { ⌜ n ≤ length (now room) ⌝ }
@@ -26,4 +36,106 @@ pub fn read_binary(image: &[u8], s: Session, at: usize, n: usize, room: &mut [u8
     let start = p.start;
     let end = p.end;
     binary::read_binary(rights, entry, &image[start..end], s, at, n, room)
+}
+
+// Only this player's crates call it.
+pub fn read_record(
+    image: &[u8],
+    s: Session,
+    number: usize,
+    mode: usize,
+    n: usize,
+    room: &mut [u8],
+) -> Reply
+    requires { ⌜ Ready (now image) s ⌝ }
+    requires { ⌜ n ≤ length (now room) ⌝ }
+    ensures { λ t. ⌜ Reads (λ r e b. readRecord r e b s number mode n) (now (image .entry)) s t (now (room .entry)) (now (room .exit)) ⌝ }
+{
+    let current = s.current;
+    let Current::File(f) = current else {
+        return refusal(s, 0x9400);
+    };
+    let p = stand(image, s, f);
+    let rights = p.rights;
+    let entry = p.entry;
+    let start = p.start;
+    let end = p.end;
+    records::read_record(rights, entry, &image[start..end], s, number, mode, n, room)
+}
+
+// Only this player's crates call it.
+pub fn seek_record(image: &[u8], s: Session, mode: usize, pattern: &[u8]) -> Reply
+    requires { ⌜ Ready (now image) s ⌝ }
+    ensures { λ t. ⌜ ((room : List ℕ) → Reads (λ r e b. seekRecord r e b s mode (now (pattern .entry))) (now (image .entry)) s t room room) ⌝ }
+{
+    let current = s.current;
+    let Current::File(f) = current else {
+        return refusal(s, 0x9400);
+    };
+    let p = stand(image, s, f);
+    let rights = p.rights;
+    let entry = p.entry;
+    let start = p.start;
+    let end = p.end;
+    seek::seek_record(rights, entry, &image[start..end], s, mode, pattern)
+}
+
+// Only this player's crates call it.
+pub fn update_binary(image: &mut [u8], s: Session, at: usize, new: &[u8]) -> Reply
+    requires { ⌜ Ready (now image) s ⌝ }
+    ensures { λ t. ⌜ Writes (λ r e b. updateBinary r e b s at (now (new .entry))) (now (image .entry)) s t (now (image .exit)) ⌝ }
+{
+    let current = s.current;
+    let Current::File(f) = current else {
+        return refusal(s, 0x9400);
+    };
+    let p = stand(image, s, f);
+    let rights = p.rights;
+    let entry = p.entry;
+    let start = p.start;
+    let end = p.end;
+    binary::update_binary(rights, entry, &mut image[start..end], s, at, new)
+}
+
+// Only this player's crates call it.
+pub fn update_record(image: &mut [u8], s: Session, number: usize, mode: usize, new: &[u8]) -> Reply
+    requires { ⌜ Ready (now image) s ⌝ }
+    ensures { λ t. ⌜ Writes (λ r e b. updateRecord r e b s number mode (now (new .entry))) (now (image .entry)) s t (now (image .exit)) ⌝ }
+{
+    let current = s.current;
+    let Current::File(f) = current else {
+        return refusal(s, 0x9400);
+    };
+    let p = stand(image, s, f);
+    let rights = p.rights;
+    let entry = p.entry;
+    let start = p.start;
+    let end = p.end;
+    let w = records::update_record(rights, entry, &mut image[start..end], s, number, mode, new);
+    let top = p.at + 12;
+    image[top] = w.top;
+    let reply = w.reply;
+    reply
+}
+
+// Only this player's crates call it.
+pub fn increase_by(image: &mut [u8], s: Session, added: &[u8]) -> Reply
+    requires { ⌜ Ready (now image) s ⌝ }
+    requires { ⌜ length (now added) ≡ 3 ⌝ }
+    ensures { λ t. ⌜ Writes (λ r e b. increaseBy r e b s (now (added .entry))) (now (image .entry)) s t (now (image .exit)) ⌝ }
+{
+    let current = s.current;
+    let Current::File(f) = current else {
+        return refusal(s, 0x9400);
+    };
+    let p = stand(image, s, f);
+    let rights = p.rights;
+    let entry = p.entry;
+    let start = p.start;
+    let end = p.end;
+    let w = increase::increase_by(rights, entry, &mut image[start..end], s, added);
+    let top = p.at + 12;
+    image[top] = w.top;
+    let reply = w.reply;
+    reply
 }

@@ -1,4 +1,4 @@
-// The commands on the current file, carried out on a whole image. Only this player's crates call them: they take the image and the
-// session as tested.
+// The commands on the current file, carried out on a whole image.
 pub mod files;
+pub mod mark;
 pub mod stand;
