@@ -10,7 +10,6 @@ use Rattle.card.specs.Answers as card
 use Rattle.card.specs.Bytes.{byte, part, splice}
 use Rattle.card.specs.Layout.{index, file, fileEntry, fileAt, start, head}
 use Rattle.card.specs.Play.{opened, headed, filled, marks, writes}
-use Rattle.card.specs.declared.Current.{Current}
 use Rattle.card.specs.declared.Entry.{Entry}
 use Rattle.card.specs.declared.Index.{Index}
 use Rattle.card.specs.declared.Rights.{Rights}
@@ -23,7 +22,7 @@ use Rattle.acts.specs.Leaves.{Writes, Marks}
 use Rattle.acts.proofs.Lent.{frontSet, partBack, frontSpliced, longSpliced}
 use Rattle.acts_files.specs.Here.{Here, place}
 use Rattle.acts_files.specs.declared.stand.Place.{Place}
-use Rattle.acts_files.proofs.Carried.{span, bytes, carried}
+use Rattle.acts_files.proofs.Carried.{span, lent, bytes, carried}
 use Rattle.acts_files.proofs.Standing.{start-inside}
 
 module _ {l : List ℕ} {s : Session} {f : ℕ} {p : Place} (h : Here l s f p) where
@@ -60,7 +59,8 @@ module _ {l : List ℕ} {s : Session} {f : ℕ} {p : Place} (h : Here l s f p) w
 
     -- written after the file's bytes
     changed : (b : List ℕ) (v : ℕ)
-        → set (splice l (p .start) (span h) b) (p .at + k) v ≡ headed (filled l (s .current) b) (set (head l) (fileAt (index (head l)) f + k) v)
+        → set (splice l (p .start) (span h) b) (p .at + k) v
+        ≡ headed (filled l (s .current) b) (set (head l) (fileAt (index (head l)) f + k) v)
     unfolding head
     changed b v =
         let n : ℕ = index l .store in
@@ -84,14 +84,13 @@ module _ {l : List ℕ} {s : Session} {f : ℕ} {p : Place} (h : Here l s f p) w
         ∙ ap (λ (i : ℕ). set x i (byte l at)) (sym at-is)
         ∙ ap (λ (y : List ℕ). set y (p .at + k) (byte l at)) (sym (spliced-is b))
 
-  -- the file's bytes, and then its top
-  pub hasWritten : (command : Rights → Entry → List ℕ → card.Written) {t : Reply} {b image : List ℕ} {top : ℕ}
-      → given.Writes (command (p .rights) (p .entry) (part l (p .start) (span h))) t b top
+  wrote : (command : Rights → Entry → List ℕ → card.Written) {t : Reply} {b image : List ℕ} {top : ℕ}
+      → given.Writes (command (p .rights) (p .entry) (lent h)) t b top
       → image ≡ set (splice l (p .start) (span h) b) (p .at + 12) top
       → Writes command l s t image
-  hasWritten command {t} {b} {image} {top} g e room =
-      let w : card.Written = command (p .rights) (p .entry) (part l (p .start) (span h)) in
-      carried h writes command t image room room
+  wrote command {t} {b} {image} {top} g e room =
+      let w : card.Written = command (p .rights) (p .entry) (lent h) in
+      carried h writes command
       (record {
         reply = g .reply;
         image′ =
@@ -102,12 +101,18 @@ module _ {l : List ℕ} {s : Session} {f : ℕ} {p : Place} (h : Here l s f p) w
         room = rw (g .silent);
       })
 
+  -- the file's bytes, and then its top
+  pub hasWritten : (command : Rights → Entry → List ℕ → card.Written) {t : Reply} {b : List ℕ} {top : ℕ}
+      → given.Writes (command (p .rights) (p .entry) (lent h)) t b top
+      → Writes command l s t (set (splice l (p .start) (span h) b) (p .at + 12) top)
+  hasWritten command g = wrote command g refl
+
   -- the file's bytes alone, where its top stays
   pub hasFilled : (command : Rights → Entry → List ℕ → card.Written) {t : Reply} {b : List ℕ}
-      → given.Writes (command (p .rights) (p .entry) (part l (p .start) (span h))) t b (p .entry .top)
+      → given.Writes (command (p .rights) (p .entry) (lent h)) t b (p .entry .top)
       → Writes command l s t (splice l (p .start) (span h) b)
   unfolding place file fileEntry
-  hasFilled command {t} {b} g = hasWritten command g (unchanged 12 (omega arith) b ∙ (simp (h .is)))
+  hasFilled command {t} {b} g = wrote command g (unchanged 12 (omega arith) b ∙ (simp (h .is)))
 
   -- the file's mark
   pub hasMarked : (command : Rights → Entry → card.Marked) {t : Reply} {status : ℕ}
@@ -116,7 +121,7 @@ module _ {l : List ℕ} {s : Session} {f : ℕ} {p : Place} (h : Here l s f p) w
   hasMarked command {t} {status} g room =
       let m : card.Marked = command (p .rights) (p .entry) in
       let b : List ℕ = opened l (s .current) in
-      carried h marks (λ r e b. command r e) t (set l (p .at + 9) status) room room
+      carried h marks (λ r e b. command r e)
       (record {
         reply = g .reply;
         image′ =

@@ -1,6 +1,6 @@
 -- Where the current file stands: laws of what is read of it.
 use Prim.Native.Nat.{ℕ, _+_, _*_, _≤_, _<_}
-use mathlib.Core.Path.{_≡_, refl, sym, ap, subst, _∙_}
+use mathlib.Core.Path.{_≡_, sym, ap, _∙_}
 use mathlib.Core.List.{List}
 use mathlib.Core.Bool.{Bool, true, _&&_}
 use native.Mathlib.Omega.{arith}
@@ -14,7 +14,6 @@ use Rattle.card.specs.Bytes.{word}
 use Rattle.card.specs.Images.{Image}
 use Rattle.card.specs.Layout.{index, code, file, fileEntry, fileAt, start, sizes, head}
 use Rattle.card.specs.Sessions.{fits, stands, pointed, padded}
-use Rattle.card.specs.declared.Code.{Code}
 use Rattle.card.specs.declared.Current.{Current}
 use Rattle.card.specs.declared.Current.the-variants.{File}
 use Rattle.card.specs.declared.Entry.{Entry}
@@ -27,7 +26,6 @@ use Rattle.card.proofs.Images as card
 use Rattle.card.proofs.Tests.{both}
 use Rattle.acts.specs.Ready.{Ready}
 use Rattle.acts_files.specs.Here.{Here, place}
-use Rattle.acts_files.specs.declared.stand.Place.{Place}
 
 -- the starts of the files, one after the other
 module _ (l : List ℕ) (i : Index) (is : i ≡ index l) where

@@ -1,5 +1,5 @@
 // The commands that read or write the current file's bytes: its entry is read once, and its bytes are passed on as a part of the image.
-// Only this player's crates call them, with what Ready asks tested. Without a current file each answers 94 00.
+// Without a current file each answers 94 00.
 use crate::stand::stand;
 use card::Current;
 use card::Session;
@@ -20,7 +20,7 @@ ghost use Rattle.card.specs.Seek.{seekRecord};
 ghost use Rattle.acts.specs.Leaves.{Reads, Writes};
 ghost use Rattle.acts.specs.Ready.{Ready};
 
-// Only this player's crates call it.
+// The n bytes from a place on, into the room. Only this player's crates call it.
 pub fn read_binary(image: &[u8], s: Session, at: usize, n: usize, room: &mut [u8]) -> Reply
     requires { ⌜ Ready (now image) s ⌝ }
     requires { ⌜ n ≤ length (now room) ⌝ }
@@ -31,14 +31,12 @@ pub fn read_binary(image: &[u8], s: Session, at: usize, n: usize, room: &mut [u8
         return refusal(s, 0x9400);
     };
     let p = stand(image, s, f);
-    let rights = p.rights;
-    let entry = p.entry;
     let start = p.start;
     let end = p.end;
-    binary::read_binary(rights, entry, &image[start..end], s, at, n, room)
+    binary::read_binary(p.rights, p.entry, &image[start..end], s, at, n, room)
 }
 
-// Only this player's crates call it.
+// A record of n bytes, into the room. Only this player's crates call it.
 pub fn read_record(
     image: &[u8],
     s: Session,
@@ -56,14 +54,21 @@ pub fn read_record(
         return refusal(s, 0x9400);
     };
     let p = stand(image, s, f);
-    let rights = p.rights;
-    let entry = p.entry;
     let start = p.start;
     let end = p.end;
-    records::read_record(rights, entry, &image[start..end], s, number, mode, n, room)
+    records::read_record(
+        p.rights,
+        p.entry,
+        &image[start..end],
+        s,
+        number,
+        mode,
+        n,
+        room,
+    )
 }
 
-// Only this player's crates call it.
+// The first record in a direction that starts with the pattern. Only this player's crates call it.
 pub fn seek_record(image: &[u8], s: Session, mode: usize, pattern: &[u8]) -> Reply
     requires { ⌜ Ready (now image) s ⌝ }
     ensures { λ t. ⌜ ((room : List ℕ) → Reads (λ r e b. seekRecord r e b s mode (now (pattern .entry))) (now (image .entry)) s t room room) ⌝ }
@@ -73,14 +78,12 @@ pub fn seek_record(image: &[u8], s: Session, mode: usize, pattern: &[u8]) -> Rep
         return refusal(s, 0x9400);
     };
     let p = stand(image, s, f);
-    let rights = p.rights;
-    let entry = p.entry;
     let start = p.start;
     let end = p.end;
-    seek::seek_record(rights, entry, &image[start..end], s, mode, pattern)
+    seek::seek_record(p.rights, p.entry, &image[start..end], s, mode, pattern)
 }
 
-// Only this player's crates call it.
+// The bytes from a place on become others. Only this player's crates call it.
 pub fn update_binary(image: &mut [u8], s: Session, at: usize, new: &[u8]) -> Reply
     requires { ⌜ Ready (now image) s ⌝ }
     ensures { λ t. ⌜ Writes (λ r e b. updateBinary r e b s at (now (new .entry))) (now (image .entry)) s t (now (image .exit)) ⌝ }
@@ -90,14 +93,12 @@ pub fn update_binary(image: &mut [u8], s: Session, at: usize, new: &[u8]) -> Rep
         return refusal(s, 0x9400);
     };
     let p = stand(image, s, f);
-    let rights = p.rights;
-    let entry = p.entry;
     let start = p.start;
     let end = p.end;
-    binary::update_binary(rights, entry, &mut image[start..end], s, at, new)
+    binary::update_binary(p.rights, p.entry, &mut image[start..end], s, at, new)
 }
 
-// Only this player's crates call it.
+// A record becomes another; the top is written after it. Only this player's crates call it.
 pub fn update_record(image: &mut [u8], s: Session, number: usize, mode: usize, new: &[u8]) -> Reply
     requires { ⌜ Ready (now image) s ⌝ }
     ensures { λ t. ⌜ Writes (λ r e b. updateRecord r e b s number mode (now (new .entry))) (now (image .entry)) s t (now (image .exit)) ⌝ }
@@ -107,18 +108,23 @@ pub fn update_record(image: &mut [u8], s: Session, number: usize, mode: usize, n
         return refusal(s, 0x9400);
     };
     let p = stand(image, s, f);
-    let rights = p.rights;
-    let entry = p.entry;
     let start = p.start;
     let end = p.end;
-    let w = records::update_record(rights, entry, &mut image[start..end], s, number, mode, new);
+    let w = records::update_record(
+        p.rights,
+        p.entry,
+        &mut image[start..end],
+        s,
+        number,
+        mode,
+        new,
+    );
     let top = p.at + 12;
     image[top] = w.top;
-    let reply = w.reply;
-    reply
+    w.reply
 }
 
-// Only this player's crates call it.
+// Record 1 plus three bytes, as a new record 1; the top is written after it. Only this player's crates call it.
 pub fn increase_by(image: &mut [u8], s: Session, added: &[u8]) -> Reply
     requires { ⌜ Ready (now image) s ⌝ }
     requires { ⌜ length (now added) ≡ 3 ⌝ }
@@ -129,13 +135,10 @@ pub fn increase_by(image: &mut [u8], s: Session, added: &[u8]) -> Reply
         return refusal(s, 0x9400);
     };
     let p = stand(image, s, f);
-    let rights = p.rights;
-    let entry = p.entry;
     let start = p.start;
     let end = p.end;
-    let w = increase::increase_by(rights, entry, &mut image[start..end], s, added);
+    let w = increase::increase_by(p.rights, p.entry, &mut image[start..end], s, added);
     let top = p.at + 12;
     image[top] = w.top;
-    let reply = w.reply;
-    reply
+    w.reply
 }

@@ -1,5 +1,4 @@
-// The commands that write the current file's mark. Only this player's crates call them, with what Ready asks tested. Without a current
-// file each answers 94 00.
+// The commands that write the current file's mark. Without a current file each answers 94 00.
 use crate::stand::stand;
 use card::Current;
 use card::Session;
@@ -10,7 +9,7 @@ ghost use Rattle.card.specs.Marks.{invalidate, rehabilitate};
 ghost use Rattle.acts.specs.Leaves.{Marks};
 ghost use Rattle.acts.specs.Ready.{Ready};
 
-// Only this player's crates call it.
+// The mark says invalidated. Only this player's crates call it.
 pub fn invalidate(image: &mut [u8], s: Session) -> Reply
     requires { ⌜ Ready (now image) s ⌝ }
     ensures { λ t. ⌜ Marks (λ r e. invalidate r e s) (now (image .entry)) s t (now (image .exit)) ⌝ }
@@ -20,16 +19,13 @@ pub fn invalidate(image: &mut [u8], s: Session) -> Reply
         return refusal(s, 0x9400);
     };
     let p = stand(image, s, f);
-    let rights = p.rights;
-    let entry = p.entry;
-    let m = marks::invalidate(rights, entry, s);
+    let m = marks::invalidate(p.rights, p.entry, s);
     let status = p.at + 9;
     image[status] = m.status;
-    let reply = m.reply;
-    reply
+    m.reply
 }
 
-// Only this player's crates call it.
+// The mark says valid again. Only this player's crates call it.
 pub fn rehabilitate(image: &mut [u8], s: Session) -> Reply
     requires { ⌜ Ready (now image) s ⌝ }
     ensures { λ t. ⌜ Marks (λ r e. rehabilitate r e s) (now (image .entry)) s t (now (image .exit)) ⌝ }
@@ -39,11 +35,8 @@ pub fn rehabilitate(image: &mut [u8], s: Session) -> Reply
         return refusal(s, 0x9400);
     };
     let p = stand(image, s, f);
-    let rights = p.rights;
-    let entry = p.entry;
-    let m = marks::rehabilitate(rights, entry, s);
+    let m = marks::rehabilitate(p.rights, p.entry, s);
     let status = p.at + 9;
     image[status] = m.status;
-    let reply = m.reply;
-    reply
+    m.reply
 }

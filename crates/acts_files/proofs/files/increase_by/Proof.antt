@@ -1,5 +1,4 @@
 -- `acts_files::files::increase_by` meets its contract.
-use mathlib.Core.Path.{refl}
 use denote.Ref.{now}
 use borrow.Author.Needs.{needs}
 use Rattle.card.specs.Increase.{increaseBy}
@@ -21,7 +20,8 @@ refusal-requires c κs = search needs
 returns : tie.Need-returns
 returns c =
     let a = c .before .before .before .before .before in
-    none writes (λ r e b. increaseBy r e b (a .args .s) (now (a .args .added))) (a .pre .0) (c .before .enum-told .given .1) (c .refusal .ensures)
+    none writes (λ r e b. increaseBy r e b (a .args .s) (now (a .args .added))) (a .pre .0)
+    (c .before .enum-told .given .1) (c .refusal .ensures)
 
 stand-requires : tie.Need-stand-requires
 stand-requires c κs = search needs
@@ -37,7 +37,7 @@ part-increase-by-end c = search needs
 
 increase-by-requires : tie.Need-increase-by-requires
 increase-by-requires c κs =
-    let here = c .before .before .before in
+    let here = c .before in
     (granted (here .stand .ensures), counted (here .stand .ensures) _ (here .before .before .before .before .before .before .before .pre .1))
 
 add-top : tie.Need-add-top
@@ -52,9 +52,9 @@ same-length c = search needs
 returns-2 : tie.Need-returns-2
 returns-2 c =
     let call = c .before .before .before .before in
-    let here = call .before .before .before .before in
+    let here = call .before .before in
     let a = here .before .before .before .before .before .before .before .args in
-    hasWritten (here .stand .ensures) (λ r e b. increaseBy r e b (a .s) (now (a .added))) (call .increase-by .ensures) refl
+    hasWritten (here .stand .ensures) (λ r e b. increaseBy r e b (a .s) (now (a .added))) (call .increase-by .ensures)
 
 pub increase-by-spec : {M : Type 1} → statement M
 increase-by-spec =

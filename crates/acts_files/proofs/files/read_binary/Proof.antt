@@ -19,8 +19,8 @@ refusal-requires c κs = search needs
 returns : tie.Need-returns
 returns c =
     let a = c .before .before .before .before .before in
-    none reads (λ r e b. readBinary r e b (a .args .s) (a .args .at) (a .args .n)) (a .pre .0) (c .before .enum-told .given .1)
-    (c .refusal .ensures) (now (a .args .room))
+    none reads (λ r e b. readBinary r e b (a .args .s) (a .args .at) (a .args .n)) (a .pre .0)
+    (c .before .enum-told .given .1) (c .refusal .ensures) (now (a .args .room))
 
 stand-requires : tie.Need-stand-requires
 stand-requires c κs = search needs
@@ -35,7 +35,7 @@ part-read-binary-end : tie.Need-part-read-binary-end
 part-read-binary-end c = search needs
 
 read-binary-requires : tie.Need-read-binary-requires
-read-binary-requires c κs = (full (c .before .before .before .before .stand .ensures), search needs)
+read-binary-requires c κs = (full (c .before .before .stand .ensures), search needs)
 
 same-length : tie.Need-same-length
 same-length c = search needs
@@ -43,7 +43,7 @@ same-length c = search needs
 returns-2 : tie.Need-returns-2
 returns-2 c =
     let call = c .before .before in
-    let here = call .before .before .before .before .before in
+    let here = call .before .before .before in
     let a = here .before .before .before .before .before .before .args in
     hasRead (here .stand .ensures) (λ r e b. readBinary r e b (a .s) (a .at) (a .n)) (call .read-binary .ensures)
 

@@ -19,7 +19,8 @@ refusal-requires c κs = search needs
 returns : tie.Need-returns
 returns c =
     let a = c .before .before .before .before .before in
-    none reads (λ r e b. readRecord r e b (a .args .s) (a .args .number) (a .args .mode) (a .args .n)) (a .pre .0) (c .before .enum-told .given .1) (c .refusal .ensures) (now (a .args .room))
+    none reads (λ r e b. readRecord r e b (a .args .s) (a .args .number) (a .args .mode) (a .args .n)) (a .pre .0)
+    (c .before .enum-told .given .1) (c .refusal .ensures) (now (a .args .room))
 
 stand-requires : tie.Need-stand-requires
 stand-requires c κs = search needs
@@ -34,7 +35,7 @@ part-read-record-end : tie.Need-part-read-record-end
 part-read-record-end c = search needs
 
 read-record-requires : tie.Need-read-record-requires
-read-record-requires c κs = (granted (c .before .before .before .before .stand .ensures), search needs)
+read-record-requires c κs = (granted (c .before .before .stand .ensures), search needs)
 
 same-length : tie.Need-same-length
 same-length c = search needs
@@ -42,7 +43,7 @@ same-length c = search needs
 returns-2 : tie.Need-returns-2
 returns-2 c =
     let call = c .before .before in
-    let here = call .before .before .before .before .before in
+    let here = call .before .before .before in
     let a = here .before .before .before .before .before .before .args in
     hasRead (here .stand .ensures) (λ r e b. readRecord r e b (a .s) (a .number) (a .mode) (a .n)) (call .read-record .ensures)
 

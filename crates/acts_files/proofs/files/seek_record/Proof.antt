@@ -19,7 +19,8 @@ refusal-requires c κs = search needs
 returns : tie.Need-returns
 returns c =
     let a = c .before .before .before .before .before in
-    none reads (λ r e b. seekRecord r e b (a .args .s) (a .args .mode) (now (a .args .pattern))) (a .pre) (c .before .enum-told .given .1) (c .refusal .ensures)
+    none reads (λ r e b. seekRecord r e b (a .args .s) (a .args .mode) (now (a .args .pattern))) (a .pre)
+    (c .before .enum-told .given .1) (c .refusal .ensures)
 
 stand-requires : tie.Need-stand-requires
 stand-requires c κs = search needs
@@ -34,11 +35,11 @@ part-seek-record-end : tie.Need-part-seek-record-end
 part-seek-record-end c = search needs
 
 seek-record-requires : tie.Need-seek-record-requires
-seek-record-requires c κs = granted (c .before .before .before .stand .ensures)
+seek-record-requires c κs = granted (c .before .stand .ensures)
 
 returns-2 : tie.Need-returns-2
 returns-2 c =
-    let here = c .before .before .before .before in
+    let here = c .before .before in
     let a = here .before .before .before .before .before .before .args in
     hasSaid (here .stand .ensures) (λ r e b. seekRecord r e b (a .s) (a .mode) (now (a .pattern))) (c .seek-record .ensures)
 

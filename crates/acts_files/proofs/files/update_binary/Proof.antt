@@ -20,7 +20,8 @@ refusal-requires c κs = search needs
 returns : tie.Need-returns
 returns c =
     let a = c .before .before .before .before .before in
-    none writes (λ r e b. updateBinary r e b (a .args .s) (a .args .at) (now (a .args .new))) (a .pre) (c .before .enum-told .given .1) (c .refusal .ensures)
+    none writes (λ r e b. updateBinary r e b (a .args .s) (a .args .at) (now (a .args .new))) (a .pre)
+    (c .before .enum-told .given .1) (c .refusal .ensures)
 
 stand-requires : tie.Need-stand-requires
 stand-requires c κs = search needs
@@ -35,7 +36,7 @@ part-update-binary-end : tie.Need-part-update-binary-end
 part-update-binary-end c = search needs
 
 update-binary-requires : tie.Need-update-binary-requires
-update-binary-requires c κs = full (c .before .before .before .stand .ensures)
+update-binary-requires c κs = full (c .before .stand .ensures)
 
 same-length : tie.Need-same-length
 same-length c = search needs
@@ -43,7 +44,7 @@ same-length c = search needs
 returns-2 : tie.Need-returns-2
 returns-2 c =
     let call = c .before .before in
-    let here = call .before .before .before .before in
+    let here = call .before .before in
     let a = here .before .before .before .before .before .before .before .args in
     hasFilled (here .stand .ensures) (λ r e b. updateBinary r e b (a .s) (a .at) (now (a .new))) (call .update-binary .ensures)
 

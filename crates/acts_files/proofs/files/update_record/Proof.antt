@@ -1,5 +1,4 @@
 -- `acts_files::files::update_record` meets its contract.
-use mathlib.Core.Path.{refl}
 use denote.Ref.{now}
 use borrow.Author.Needs.{needs}
 use Rattle.card.specs.Records.{updateRecord}
@@ -21,7 +20,8 @@ refusal-requires c κs = search needs
 returns : tie.Need-returns
 returns c =
     let a = c .before .before .before .before .before in
-    none writes (λ r e b. updateRecord r e b (a .args .s) (a .args .number) (a .args .mode) (now (a .args .new))) (a .pre) (c .before .enum-told .given .1) (c .refusal .ensures)
+    none writes (λ r e b. updateRecord r e b (a .args .s) (a .args .number) (a .args .mode) (now (a .args .new))) (a .pre)
+    (c .before .enum-told .given .1) (c .refusal .ensures)
 
 stand-requires : tie.Need-stand-requires
 stand-requires c κs = search needs
@@ -36,7 +36,7 @@ part-update-record-end : tie.Need-part-update-record-end
 part-update-record-end c = search needs
 
 update-record-requires : tie.Need-update-record-requires
-update-record-requires c κs = granted (c .before .before .before .stand .ensures)
+update-record-requires c κs = granted (c .before .stand .ensures)
 
 add-top : tie.Need-add-top
 add-top c = search needs
@@ -50,9 +50,9 @@ same-length c = search needs
 returns-2 : tie.Need-returns-2
 returns-2 c =
     let call = c .before .before .before .before in
-    let here = call .before .before .before .before in
+    let here = call .before .before in
     let a = here .before .before .before .before .before .before .before .args in
-    hasWritten (here .stand .ensures) (λ r e b. updateRecord r e b (a .s) (a .number) (a .mode) (now (a .new))) (call .update-record .ensures) refl
+    hasWritten (here .stand .ensures) (λ r e b. updateRecord r e b (a .s) (a .number) (a .mode) (now (a .new))) (call .update-record .ensures)
 
 pub update-record-spec : {M : Type 1} → statement M
 update-record-spec =

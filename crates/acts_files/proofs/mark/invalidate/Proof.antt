@@ -19,7 +19,8 @@ refusal-requires c κs = search needs
 returns : tie.Need-returns
 returns c =
     let a = c .before .before .before .before in
-    none marks (λ r e b. invalidate r e (a .args .s)) (a .pre) (c .before .enum-told .given .1) (c .refusal .ensures)
+    none marks (λ r e b. invalidate r e (a .args .s)) (a .pre)
+    (c .before .enum-told .given .1) (c .refusal .ensures)
 
 stand-requires : tie.Need-stand-requires
 stand-requires c κs = search needs
@@ -39,8 +40,9 @@ same-length c = search needs
 returns-2 : tie.Need-returns-2
 returns-2 c =
     let call = c .before .before in
-    let here = call .before .before .before in
-    hasMarked (here .stand .ensures) (λ r e. invalidate r e (here .before .before .before .before .before .before .args .s)) (call .invalidate .ensures)
+    let here = call .before in
+    let a = here .before .before .before .before .before .before .args in
+    hasMarked (here .stand .ensures) (λ r e. invalidate r e (a .s)) (call .invalidate .ensures)
 
 pub invalidate-spec : {M : Type 1} → statement M
 invalidate-spec =
