@@ -11,7 +11,7 @@ use borrow.Author.Tests.{ltb-true}
 use Rattle.card.specs.Access.{rights}
 use Rattle.card.specs.Bytes.{word}
 use Rattle.card.specs.Images.{Image}
-use Rattle.card.specs.Layout.{index, code, file, fileEntry, fileAt, start, sizes, head}
+use Rattle.card.specs.Layout.{index, file, fileEntry, fileAt, start, sizes, head}
 use Rattle.card.specs.Sessions.{fits, stands, pointed, padded}
 use Rattle.card.specs.declared.Current.{Current}
 use Rattle.card.specs.declared.Current.the-variants.{File}

@@ -23,9 +23,10 @@ pub struct Place {
     pub end: usize,
 }
 
-// Where the status and the top stand in a file's entry.
+// Where the status stands in a file's entry.
 pub const STATUS: usize = 9;
 
+// Where the top stands.
 pub const TOP: usize = 12;
 
 // Which of levels 1 and 2 the codes and the session fulfil.
