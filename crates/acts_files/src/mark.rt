@@ -1,0 +1,42 @@
+// The commands that write the current file's mark. Without a current file each answers 94 00.
+use crate::stand::stand;
+use card::Current;
+use card::Session;
+use commands::answers::Reply;
+use commands::answers::refusal;
+use commands_files::marks;
+ghost use Rattle.card.specs.Marks.{invalidate, rehabilitate};
+ghost use Rattle.acts.specs.Leaves.{Marks};
+ghost use Rattle.acts.specs.Ready.{Ready};
+
+// The mark says invalidated. Only this player's crates call it.
+pub fn invalidate(image: &mut [u8], s: Session) -> Reply
+    requires { ⌜ Ready (now image) s ⌝ }
+    ensures { λ t. ⌜ Marks (λ r e. invalidate r e s) (now (image .entry)) s t (now (image .exit)) ⌝ }
+{
+    let current = s.current;
+    let Current::File(f) = current else {
+        return refusal(s, 0x9400);
+    };
+    let p = stand(image, s, f);
+    let m = marks::invalidate(p.rights, p.entry, s);
+    let status = p.at + 9;
+    image[status] = m.status;
+    m.reply
+}
+
+// The mark says valid again. Only this player's crates call it.
+pub fn rehabilitate(image: &mut [u8], s: Session) -> Reply
+    requires { ⌜ Ready (now image) s ⌝ }
+    ensures { λ t. ⌜ Marks (λ r e. rehabilitate r e s) (now (image .entry)) s t (now (image .exit)) ⌝ }
+{
+    let current = s.current;
+    let Current::File(f) = current else {
+        return refusal(s, 0x9400);
+    };
+    let p = stand(image, s, f);
+    let m = marks::rehabilitate(p.rights, p.entry, s);
+    let status = p.at + 9;
+    image[status] = m.status;
+    m.reply
+}

@@ -1,0 +1,73 @@
+// What a command on the current file goes by, read from the image once.
+use card::Entry;
+use card::Index;
+use card::Rights;
+use card::Session;
+use commands::parts::wide_word;
+use shelf::read;
+ghost use mathlib.Core.Path.{_≡_};
+ghost use Prim.Native.Nat.{_<_};
+ghost use Rattle.card.specs.Access.{rights};
+ghost use Rattle.card.specs.Layout.{start};
+ghost use Rattle.card.specs.declared.Current.the-variants.{File};
+ghost use Rattle.shelf.specs.Reads.{Indexed};
+ghost use Rattle.acts.specs.Ready.{Ready};
+ghost use Rattle.acts_files.specs.Here.{Here};
+
+// The rights, the file's entry and the entry's place, and where the file's bytes start and end.
+pub struct Place {
+    pub rights: Rights,
+    pub entry: Entry,
+    pub at: usize,
+    pub start: usize,
+    pub end: usize,
+}
+
+// Which of levels 1 and 2 the codes and the session fulfil.
+fn rights(l: &[u8], s: Session) -> Rights
+    ensures { λ r. ⌜ r ≡ rights (now (l .entry)) s ⌝ }
+{
+    let one = read::code(l, 0);
+    let two = read::code(l, 1);
+    Rights {
+        level1: (0 < one.attempts) & ((one.flags % 2 == 1) | s.chv1),
+        level2: (0 < two.attempts) & s.chv2,
+    }
+}
+
+// Where the bytes of file f start: after the bytes of the files before it.
+fn start(l: &[u8], i: Index, f: usize) -> usize
+    requires { ⌜ Indexed (now l) i ⌝ }
+    requires { ⌜ f < 65536 ⌝ }
+    ensures { λ r. ⌜ r ≡ start (now (l .entry)) f ⌝ }
+{
+    let table = i.table;
+    let mut at = i.store;
+    let mut g = 0;
+    while g < f {
+        at += wide_word(read::word_at(l, table + 14 * g + 10));
+        g += 1;
+    }
+    at
+}
+
+// The current file. Only this player's crates call it.
+pub fn stand(l: &[u8], s: Session, f: usize) -> Place
+    requires { ⌜ Ready (now l) s ⌝ }
+    requires { ⌜ s .current ≡ File f ⌝ }
+    ensures { λ p. ⌜ Here (now (l .entry)) s f p ⌝ }
+{
+    let i = read::index(l);
+    let at = i.table + 14 * f;
+    let rights = rights(l, s);
+    let entry = read::file_at(l, at);
+    let start = start(l, i, f);
+    let end = start + wide_word(entry.size);
+    Place {
+        rights,
+        entry,
+        at,
+        start,
+        end,
+    }
+}
