@@ -1,2 +1,1 @@
-pub mod Right
 pub mod Ends

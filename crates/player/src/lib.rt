@@ -1,5 +1,4 @@
 // One command on an image, a session and a room.
-pub mod act;
 pub mod perform;
 
 use card::Answer;

@@ -1,6 +1,6 @@
 // One command on an image that was tested, with room for any response.
 use crate::Played;
-use crate::act::act;
+use acting::act;
 use card::Answer;
 use card::Instruction;
 use card::Session;
@@ -21,7 +21,7 @@ ghost use Rattle.card.specs.Bytes.{byte};
 ghost use Rattle.card.specs.Layout.{head};
 ghost use Rattle.card.specs.Play.{act, opened, done, declined, performAs, perform};
 ghost use Rattle.player.specs.Ends.{Tells, Ends};
-ghost use Rattle.player.specs.Right.{Right};
+ghost use Rattle.acting.specs.Right.{Right};
 
 // A host answer that leaves everything.
 pub fn decline(a: Answer, s: Session) -> Played

@@ -4,6 +4,8 @@ use acts_codes::disable;
 use acts_codes::enable;
 use acts_codes::unblock;
 use acts_codes::verify;
+use acts_files::files;
+use acts_files::mark;
 use acts_select::select;
 use acts_select::status;
 use card::Instruction;
@@ -21,7 +23,7 @@ ghost use Rattle.acts.specs.Leaves.{Leaves};
 ghost use Rattle.acts.specs.Ready.{Ready};
 ghost use Rattle.card.specs.Layout.{head};
 ghost use Rattle.card.specs.Play.{act, opened};
-ghost use Rattle.player.specs.Right.{Right};
+ghost use Rattle.acting.specs.Right.{Right};
 
 // Only this player's crates call it, after the tests of the image, the session and the command.
 pub fn act(
@@ -43,19 +45,19 @@ pub fn act(
     match i {
         Instruction::Select => select(image, s, word_at(body, 0)),
         Instruction::Status => status(image, s, n, room),
-        Instruction::ReadBinary => refusal(s, 0x6d00),
-        Instruction::UpdateBinary => refusal(s, 0x6d00),
-        Instruction::ReadRecord => refusal(s, 0x6d00),
-        Instruction::UpdateRecord => refusal(s, 0x6d00),
-        Instruction::Seek => refusal(s, 0x6d00),
-        Instruction::Increase => refusal(s, 0x6d00),
+        Instruction::ReadBinary => files::read_binary(image, s, p * 256 + q, wanted(n), room),
+        Instruction::UpdateBinary => files::update_binary(image, s, p * 256 + q, body),
+        Instruction::ReadRecord => files::read_record(image, s, p, q, n, room),
+        Instruction::UpdateRecord => files::update_record(image, s, p, q, body),
+        Instruction::Seek => files::seek_record(image, s, q, body),
+        Instruction::Increase => files::increase_by(image, s, body),
         Instruction::Verify => verify(image, s, q - 1, body),
         Instruction::Change => change(image, s, q - 1, body),
         Instruction::Disable => disable(image, s, body),
         Instruction::Enable => enable(image, s, body),
         Instruction::Unblock => unblock(image, s, q / 2, body),
-        Instruction::Invalidate => refusal(s, 0x6d00),
-        Instruction::Rehabilitate => refusal(s, 0x6d00),
+        Instruction::Invalidate => mark::invalidate(image, s),
+        Instruction::Rehabilitate => mark::rehabilitate(image, s),
         Instruction::Sleep => silent(dropped(s), 0x9000),
         Instruction::GetResponse => get_response(s, n, room),
         Instruction::Unknown => refusal(s, 0x6d00),
