@@ -7,12 +7,14 @@ use lib.ListN.{length, take, drop, set, length-append, length-drop}
 use lib.Seq.{take-all}
 use Rattle.card.specs.Answers as card
 use Rattle.card.specs.Answers.{laid}
-use Rattle.card.specs.Play.{Outcome, told, done, afterwards, declined}
+use Rattle.card.specs.Play.{Outcome, act, told, done, afterwards, declined}
 use Rattle.card.specs.declared.Answer.{Answer}
+use Rattle.card.specs.declared.Instruction.{Instruction}
 use Rattle.card.specs.declared.Session.{Session}
 use Rattle.commands.specs.declared.answers.Reply.{Reply}
 use Rattle.commands.specs.Gives.{brief}
 use Rattle.acts.specs.Leaves.{Leaves}
+use Rattle.acting.specs.Right.{Right}
 use Rattle.player.specs.declared.Played.{Played}
 use Rattle.player.specs.Ends.{Tells, Ends}
 use Rattle.player.proofs.Rooms.{closed, within, behind, long}
@@ -36,13 +38,21 @@ ended d t r l image was is fin e q tells h i =
       room = tells .room ∙ (simp (q, e)) ∙ closed (d .bytes) was (d .word / 256) (d .word % 256) h;
     }
 
+-- a word alone
+pub says : (s′ : Session) (w : ℕ) {t : Reply} {r : Played} (l : List ℕ) {room fin : List ℕ} → t ≡ brief (card.reply [] w s′)
+    → Tells t r room fin → 258 ≤ length room → Ends (told l (card.reply [] w s′)) r l room fin
+says s′ w l e tells h = ended (card.reply [] w s′) _ _ l l _ _ _ e refl tells (omega arith) refl
+
+pub roomForWord : (s′ : Session) (w : ℕ) {t : Reply} → t ≡ brief (card.reply [] w s′) → (room : ℕ) → 258 ≤ room → t .count + 2 ≤ room
+roomForWord s′ w {t} e room h = omega (arith, countOf (card.reply [] w s′) t e)
+
 -- nothing was done
 pub declines : {r : Played} (a : Answer) (l room : List ℕ) (s : Session) → r ≡ record { answer = a; count = 0; session = s }
     → Ends (declined a l s) r l room room
 declines a l room s e = record { answer = simp e; count = simp e; session = simp e; image′ = refl; room = refl }
 
 -- a command was carried out in the first 256 bytes of the room
-module _ {e : card.Effect} {l : List ℕ} {s : Session} {t : Reply} {image was new : List ℕ}
+module _ (was : List ℕ) {e : card.Effect} {l : List ℕ} {s : Session} {t : Reply} {image new : List ℕ}
     (v : Leaves e l s t image (take 256 was) new) (same : length new ≡ length (take 256 was)) (h : 258 ≤ length was) where
   few : length (e .given .bytes) ≤ 256
   few = within (e .given .bytes) was new 256 (omega arith) (v .room) same
@@ -61,6 +71,10 @@ module _ {e : card.Effect} {l : List ℕ} {s : Session} {t : Reply} {image was n
 pub tail : (c : List ℕ) → take (length c - 5) (drop 5 c) ≡ drop 5 c
 tail c = take-all (length c - 5) (drop 5 c) (omega (arith, length-drop 5 c))
 
-pub spelled : {A : Type 0} (F : ℕ → ℕ → ℕ → List ℕ → A) {p p′ q q′ n n′ : ℕ} {d d′ : List ℕ} → p ≡ p′ → q ≡ q′ → n ≡ n′ → d ≡ d′
-    → F p q n d ≡ F p′ q′ n′ d′
-spelled F ep eq en ed = rw (ep, eq, en, ed)
+pub rightly : {i : Instruction} {p p′ q q′ n n′ : ℕ} {d d′ : List ℕ} → p ≡ p′ → q ≡ q′ → n ≡ n′ → d ≡ d′ → Right i p′ q′ n′ d′
+    → Right i p q n d
+rightly ep eq en ed r = rw (ep, eq, en, ed) r
+
+pub spelled : (i : Instruction) (h b : List ℕ) (s : Session) {p p′ q q′ n n′ : ℕ} {d d′ : List ℕ} → p ≡ p′ → q ≡ q′ → n ≡ n′ → d ≡ d′
+    → act i h b s p q n d ≡ act i h b s p′ q′ n′ d′
+spelled i h b s ep eq en ed = rw (ep, eq, en, ed)

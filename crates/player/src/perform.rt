@@ -16,7 +16,7 @@ ghost use mathlib.Core.List.{[]};
 ghost use Prim.Native.Nat.{_+_, _≤_};
 ghost use lib.ListN.{length, drop};
 ghost use Rattle.acts.specs.Ready.{Ready};
-ghost use Rattle.card.specs.Answers.{number, first};
+ghost use Rattle.card.specs.Answers.{number};
 ghost use Rattle.card.specs.Bytes.{byte};
 ghost use Rattle.card.specs.Layout.{head};
 ghost use Rattle.card.specs.Play.{act, opened, done, declined, performAs, perform};
@@ -71,4 +71,38 @@ fn carry_out(
     let n = wide(command[4]);
     let t = act(image, s, i, p, q, n, &command[5..], &mut room[..256]);
     tell(t, room)
+}
+
+// Class, form, data bytes, and then the command itself.
+fn perform_as(
+    image: &mut [u8],
+    s: Session,
+    i: Instruction,
+    command: &[u8],
+    room: &mut [u8],
+) -> Played
+    requires { ⌜ Ready (now image) s ⌝ }
+    requires { ⌜ (258 ≤ length (now room)) × (5 ≤ length (now command)) ⌝ }
+    ensures { λ r. ⌜ Ends (performAs i (now (image .entry)) s (now (command .entry))) r (now (image .exit)) (now (room .entry)) (now (room .exit)) ⌝ }
+{
+    if command[0] != 0xa0 {
+        return tell(silent(s, 0x6e00), room);
+    }
+    let word = formed(i, command[2], command[3], command[4]);
+    if word != 0 {
+        return tell(refusal(s, word), room);
+    }
+    if command.len() - 5 != sent(i, command[4]) {
+        return decline(Answer::WrongLength, s);
+    }
+    carry_out(image, s, i, command, room)
+}
+
+// A command on an image and a session that were tested, in room for any response. Only this player's crates call it.
+pub fn perform(image: &mut [u8], s: Session, command: &[u8], room: &mut [u8]) -> Played
+    requires { ⌜ Ready (now image) s ⌝ }
+    requires { ⌜ (258 ≤ length (now room)) × (5 ≤ length (now command)) ⌝ }
+    ensures { λ r. ⌜ Ends (perform (now (image .entry)) s (now (command .entry))) r (now (image .exit)) (now (room .entry)) (now (room .exit)) ⌝ }
+{
+    perform_as(image, s, instruction_of(command[1]), command, room)
 }
