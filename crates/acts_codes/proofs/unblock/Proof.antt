@@ -1,0 +1,51 @@
+-- `acts_codes::unblock` meets its contract: the entry was lent as a part and came back.
+use denote.Ref.{now}
+use Rattle.card.specs.Codes.{unblock}
+use Rattle.acts_codes.proofs.Entering.{inside, coded}
+use borrow.Author.Needs.{needs}
+use Rattle.acts_codes.proofs.unblock.Statement.{statement}
+use Rattle.acts_codes.proofs.unblock.Tie as tie
+
+mul-at : tie.Need-mul-at
+mul-at c = search needs
+
+add-at : tie.Need-add-at
+add-at c = search needs
+
+add-end : tie.Need-add-end
+add-end c = search needs
+
+sub-unblock : tie.Need-sub-unblock
+sub-unblock c = search needs
+
+part-unblock-start : tie.Need-part-unblock-start
+part-unblock-start c = search needs
+
+part-unblock-end : tie.Need-part-unblock-end
+part-unblock-end c =
+    inside (c .before .before .pre .0) (c .before .before .args .c) (c .before .before .pre .1 .0)
+
+unblock-requires : tie.Need-unblock-requires
+unblock-requires c κs = search needs
+
+same-length : tie.Need-same-length
+same-length c = search needs
+
+returns : tie.Need-returns
+returns c =
+    let a = c .before .before .before .before .before .before .args in
+    coded (c .before .before .before .before .before .before .pre .0) (a .c) (c .before .before .before .before .before .before .pre .1 .0) (λ e c. unblock e (a .s) c (now (a .given))) _ _ (c .before .before .unblock .kept .0) (c .before .before .unblock .ensures)
+
+pub unblock-spec : {M : Type 1} → statement M
+unblock-spec =
+    tie.close
+    (tie.spec
+    mul-at
+    add-at
+    add-end
+    sub-unblock
+    part-unblock-start
+    part-unblock-end
+    unblock-requires
+    same-length
+    returns)

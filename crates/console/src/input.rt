@@ -1,0 +1,31 @@
+// What is read from standard input, and no byte more.
+ghost use Prim.Native.Nat.{_<_};
+ghost use mathlib.Core.Path.{_≡_};
+use libc::STDIN_FILENO;
+
+// A two-byte count; nothing came where the input ends before it.
+pub struct Count {
+    pub came: bool,
+    pub value: usize,
+}
+
+fn wide(b: u8) -> usize
+    ensures { λ r. ⌜ (r ≡ b) × (r < 256) ⌝ }
+{
+    b as usize
+}
+
+// Fills the slice; answers whether so many bytes came.
+pub fn fill(to: &mut [u8]) -> bool {
+    io::read_full(STDIN_FILENO, to) == to.len()
+}
+
+// High byte first.
+pub fn read_count() -> Count
+    ensures { λ r. ⌜ r .value < 65536 ⌝ }
+{
+    let mut two = [0u8; 2];
+    let came = fill(&mut two);
+    let value = wide(two[0]) * 256 + wide(two[1]);
+    Count { came, value }
+}

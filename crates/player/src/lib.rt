@@ -1,0 +1,51 @@
+// One command on an image, a session and a room.
+pub mod perform;
+
+use card::Answer;
+use card::Session;
+use perform::decline;
+use shelf::read::index;
+use shelf_check::is_image;
+use shelf_check::session_fits;
+ghost use lib.ListN.{length};
+ghost use Rattle.acts.specs.Ready.{Ready};
+ghost use Rattle.card.specs.Play.{play};
+ghost use Rattle.player.specs.Ends.{Ends};
+
+// How a command ends: the host's answer, how many bytes of the room are the response, and the session afterwards.
+pub struct Played {
+    pub answer: Answer,
+    pub count: usize,
+    pub session: Session,
+}
+
+// Plays a command on an image and a session that were tested before. Only this player's crates call it.
+pub fn play_ready(image: &mut [u8], session: Session, command: &[u8], room: &mut [u8]) -> Played
+    requires { ⌜ Ready (now image) session ⌝ }
+    ensures { λ r. ⌜ Ends (play (now (image .entry)) session (now (command .entry)) (length (now (room .entry))))
+        r (now (image .exit)) (now (room .entry)) (now (room .exit)) ⌝ }
+{
+    if room.len() < 258 {
+        return decline(Answer::RoomTooSmall, session);
+    }
+    if command.len() < 5 {
+        return decline(Answer::WrongLength, session);
+    }
+    perform::perform(image, session, command, room)
+}
+
+// Plays a command, whatever bytes the image, the command and the room are, and whatever the session: the answer, the session, and each
+// byte of the image and the room are the definition's.
+pub fn play(image: &mut [u8], session: Session, command: &[u8], room: &mut [u8]) -> Played
+    ensures { λ r. ⌜ Ends (play (now (image .entry)) session (now (command .entry)) (length (now (room .entry))))
+        r (now (image .exit)) (now (room .entry)) (now (room .exit)) ⌝ }
+{
+    if !is_image(image) {
+        return decline(Answer::NotAnImage, session);
+    }
+    let store = index(image).store;
+    if !session_fits(&image[..store], session) {
+        return decline(Answer::DoesNotFit, session);
+    }
+    play_ready(image, session, command, room)
+}
