@@ -21,7 +21,8 @@ find-directory-requires c κs =
 
 directory-response-requires : tie.Need-directory-response-requires
 directory-response-requires c κs =
-    (heading (c .before .before .before .before .before .before .pre) _ (c .before .before .before .before .index .ensures .is), omega arith)
+    let d = c .before .before .before .before in
+    (heading (d .before .before .pre) _ (d .index .ensures .is), omega arith)
 
 select-directory-requires : tie.Need-select-directory-requires
 select-directory-requires c κs = search needs
@@ -37,11 +38,13 @@ returns c =
 
 find-file-requires : tie.Need-find-file-requires
 find-file-requires c κs =
-    heading (c .before .before .before .before .before .before .pre) _ (c .before .before .before .before .index .ensures .is) .indexed
+    let d = c .before .before .before .before in
+    heading (d .before .before .pre) _ (d .index .ensures .is) .indexed
 
 file-requires : tie.Need-file-requires
 file-requires c κs =
-    let h = heading (c .before .before .before .before .before .before .before .before .before .pre) _ (c .before .before .before .before .before .before .before .index .ensures .is) in
+    let d = c .before .before .before .before .before .before .before in
+    let h = heading (d .before .before .pre) _ (d .index .ensures .is) in
     (h .indexed, omega (arith, c .if2 .taken, h .files))
 
 file-response-requires : tie.Need-file-response-requires
