@@ -1,11 +1,11 @@
 // The subscriber's number.
 use crate::Answer;
+use fields::halves::pack;
+use fields::halves::unpack;
 use fields::text::closed;
 use fields::text::lead;
 use fields::text::place;
 use fields::text::put_text;
-use fields::halves::pack;
-use fields::halves::unpack;
 ghost use mathlib.Core.Path.{_≡_};
 ghost use mathlib.Core.List.{[]};
 ghost use Rattle.codings.specs.Answers.{number, outcome, told};

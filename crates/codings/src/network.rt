@@ -1,8 +1,8 @@
 // The entry of a network in a list of networks.
 use crate::Answer;
+use fields::halves::unpack;
 use fields::text::filled;
 use fields::text::lead;
-use fields::halves::unpack;
 ghost use mathlib.Core.Path.{_≡_};
 ghost use mathlib.Core.List.{[], _∷_};
 ghost use Prim.Native.Nat.{_<_};
