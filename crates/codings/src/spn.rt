@@ -30,8 +30,8 @@ fn refused(answer: Answer) -> Spn
     }
 }
 
-// The display bits as a byte.
-fn bits(bit1: bool, bit2: bool) -> u8
+// The two bits as the first byte.
+pub fn bits(bit1: bool, bit2: bool) -> u8
     ensures { λ r. ⌜ r ≡ bits bit1 bit2 ⌝ }
 {
     if bit1 {
