@@ -49,14 +49,7 @@ fn line(number: u64, answer: Answer, file: &[u8], value: &[u8], room: &mut [u8])
 }
 
 // One case on its bytes.
-fn play(
-    number: u64,
-    kind: Kind,
-    operation: u8,
-    file: &mut [u8],
-    value: &[u8],
-    room: &mut [u8],
-) {
+fn play(number: u64, kind: Kind, operation: u8, file: &mut [u8], value: &[u8], room: &mut [u8]) {
     if operation == 0 {
         let r = cases::decode(kind, value, file);
         let answer = r.answer;
@@ -104,7 +97,14 @@ fn next(number: u64, file: &mut [u8], value: &mut [u8], room: &mut [u8]) -> bool
     if !fill(value, long) {
         return false;
     }
-    play(number, cases::kind_of(head[0]), head[1], &mut file[..size], &value[..long], room);
+    play(
+        number,
+        cases::kind_of(head[0]),
+        head[1],
+        &mut file[..size],
+        &value[..long],
+        room,
+    );
     true
 }
 

@@ -1,6 +1,5 @@
 // The playing program: reads an image and commands from standard input, and writes one line a command. What a command answers is all in
 // `player`; here is only reading and printing.
-mod input;
 mod line;
 
 ghost use Prim.Native.Nat.{_≤_};
@@ -10,6 +9,8 @@ ghost use lib.ListN.{length};
 use card::Current;
 use card::Pointer;
 use card::Session;
+use streams::input;
+use streams::short_input;
 
 // Master file, no EF, undefined, no marks, nothing waiting.
 fn reset() -> Session
@@ -90,7 +91,7 @@ fn play_input(image: &mut [u8]) -> bool {
 // Plays the commands on the image that came. Where it is asked for, the image afterwards is told on one more line.
 fn play_on(image: &mut [u8], told: bool) {
     if !play_input(image) {
-        line::short_input();
+        short_input();
     }
     if told {
         line::tell_image(image);
@@ -112,7 +113,7 @@ fn play_in(space: &mut [u8], told: bool)
         play_on(image, told);
         return;
     }
-    line::short_input();
+    short_input();
     if told {
         line::tell_image(b"");
     }

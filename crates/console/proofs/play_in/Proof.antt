@@ -4,9 +4,6 @@ use Rattle.console.proofs.play_in.Statement.{statement}
 use Rattle.console.proofs.play_in.Tie as tie
 use Rattle.console.proofs.play_in.Reads as reads
 use Rattle.console.proofs.play_in.Lts as lts
-use Rattle.console.proofs.input.fill.Reads as fill-reads
-use Rattle.console.proofs.input.read_count.Reads as read-count-reads
-use Rattle.console.proofs.line.short_input.Reads as short-input-reads
 use Rattle.console.proofs.line.tell_image.Reads as tell-image-reads
 use Rattle.console.proofs.play_on.Reads as play-on-reads
 

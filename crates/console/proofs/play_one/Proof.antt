@@ -4,8 +4,6 @@ use Rattle.console.proofs.play_one.Statement.{statement}
 use Rattle.console.proofs.play_one.Tie as tie
 use Rattle.console.proofs.play_one.Reads as reads
 use Rattle.console.proofs.play_one.Lts as lts
-use Rattle.console.proofs.input.fill.Reads as fill-reads
-use Rattle.console.proofs.input.read_count.Reads as read-count-reads
 use Rattle.console.proofs.line.report.Reads as report-reads
 use Rattle.player.proofs.play.Reads as play-reads
 

@@ -4,7 +4,6 @@ use Rattle.console.proofs.line.hexed.Statement.{statement}
 use Rattle.console.proofs.line.hexed.Tie as tie
 use Rattle.console.proofs.line.hexed.Reads as reads
 use Rattle.console.proofs.line.hexed.Lts as lts
-use Rattle.console.proofs.line.push_hex.Reads as push-hex-reads
 
 -- src/line.rt:107:5
 push-hex-requires : tie.Need-push-hex-requires

@@ -5,9 +5,6 @@ use Rattle.console.proofs.line.spell.Tie as tie
 use Rattle.console.proofs.line.spell.Reads as reads
 use Rattle.console.proofs.line.spell.Lts as lts
 use Rattle.console.proofs.line.digit.Reads as digit-reads
-use Rattle.console.proofs.line.push.Reads as push-reads
-use Rattle.console.proofs.line.push_hex.Reads as push-hex-reads
-use Rattle.console.proofs.line.push_number.Reads as push-number-reads
 
 -- src/line.rt:84:9
 push-number-requires : tie.Need-push-number-requires

@@ -2,11 +2,11 @@ use Prim.Native.Nat.{_≤_, _-_}
 use mathlib.Core.Path.{_≡_}
 use lib.ListN.{length}
 use borrow.Author.Needs.{needs}
-use Rattle.console.proofs.line.push_all.Statement.{statement}
-use Rattle.console.proofs.line.push_all.Tie as tie
-use Rattle.console.proofs.line.push_all.Reads as reads
-use Rattle.console.proofs.line.push_all.Lts as lts
-use Rattle.console.proofs.line.push.Reads as push-reads
+use Rattle.streams.proofs.text.push_all.Statement.{statement}
+use Rattle.streams.proofs.text.push_all.Tie as tie
+use Rattle.streams.proofs.text.push_all.Reads as reads
+use Rattle.streams.proofs.text.push_all.Lts as lts
+use Rattle.streams.proofs.text.push.Reads as push-reads
 
 abbrev Inv-loop : tie.InvT-loop
 Inv-loop text₀ from bytes at₀ i₀ text at i = (i ≤ length bytes) × ((at ≤ length text) × (length text ≡ length text₀))

@@ -1,11 +1,11 @@
--- `console::line::push_hex` meets its contract: the text keeps its length, and the place lies in it.
+-- `streams::text::push_hex` meets its contract: the text keeps its length, and the place lies in it.
 use Prim.Native.Nat.{_≤_, _-_}
 use mathlib.Core.Path.{_≡_, _∙_, refl}
 use native.Mathlib.Omega.{arith}
 use lib.ListN.{length}
 use borrow.Author.Needs.{needs}
-use Rattle.console.proofs.line.push_hex.Statement.{statement}
-use Rattle.console.proofs.line.push_hex.Tie as tie
+use Rattle.streams.proofs.text.push_hex.Statement.{statement}
+use Rattle.streams.proofs.text.push_hex.Tie as tie
 
 abbrev Inv-loop : tie.InvT-loop
 Inv-loop text₀ from bytes at₀ i₀ text at i = (i ≤ length bytes) × ((at ≤ length text) × (length text ≡ length text₀))

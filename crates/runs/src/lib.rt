@@ -1,0 +1,44 @@
+// Runs of commands on one image. It is tested once: an image stays an image and a session goes on fitting it, as the demands prove, so
+// each further command needs no test.
+use card::Session;
+use player::Played;
+use shelf::read::index;
+use shelf_check::is_image;
+use shelf_check::session_fits;
+ghost use mathlib.Core.Path.{_≡_};
+ghost use mathlib.Core.Bool.{true};
+ghost use lib.ListN.{length};
+ghost use Rattle.acts.specs.Ready.{Ready};
+ghost use Rattle.card.specs.Play.{play};
+ghost use Rattle.player.specs.Ends.{Ends};
+
+// Whether these bytes are an image that the session fits. Where they are not, nothing is promised of later commands, and each is tested.
+pub fn tested(image: &[u8], session: Session) -> bool
+    ensures { λ r. ⌜ (r ≡ true → Ready (now (image .entry)) session) ⌝ }
+{
+    if !is_image(image) {
+        return false;
+    }
+    let store = index(image).store;
+    session_fits(&image[..store], session)
+}
+
+// Plays a command as `play` does; where image and session are known to be tested, it does not test them again, and they are so again
+// afterwards. Only this project's programs call it.
+pub fn play_on(
+    known: bool,
+    image: &mut [u8],
+    session: Session,
+    command: &[u8],
+    room: &mut [u8],
+) -> Played
+    requires { ⌜ (known ≡ true → Ready (now image) session) ⌝ }
+    ensures { λ r. ⌜ Ends (play (now (image .entry)) session (now (command .entry)) (length (now (room .entry))))
+        r (now (image .exit)) (now (room .entry)) (now (room .exit)) ⌝ }
+    ensures { λ r. ⌜ (known ≡ true → Ready (now (image .exit)) (r .session)) ⌝ }
+{
+    if known {
+        return player::play_ready(image, session, command, room);
+    }
+    player::play(image, session, command, room)
+}
