@@ -39,13 +39,19 @@ perform-as-spec =
     (λ c. let a = c .before .before .before .before .before .before .before .before .before .before .before .before .before .before .args in
     ends (wrongLength (a .i) (now (a .image)) (a .s) (now (a .command)) (c .before .before .before .before .before .before .before .before .before .if1 .left) _ (c .before .before .before .before .before .formed .ensures) (c .before .before .before .before .if2 .left) _ (c .before .before .sent .ensures) (c .before .if3 .taken))
     (declines WrongLength (now (a .image)) (now (a .room)) (a .s) (c .decline .ensures)))
-    (λ c κs. (c .before .before .before .before .before .before .before .before .before .before .before .before .before .before .before .pre .0, (c .before .before .before .before .before .before .before .before .before .before .before .before .before .before .before .pre .1, record {
-      p1 = omega (arith, c .before .before .before .before .before .before .before .before .before .before .before .before .before .shared-slice-known .given 2);
-      p2 = omega (arith, c .before .before .before .before .before .before .before .before .before .before .before .before .before .shared-slice-known .given 3);
-      p3 = omega (arith, c .before .before .before .before .before .before .before .before .before .before .before .before .before .shared-slice-known .given 4);
-      form = sym (c .before .before .before .before .before .before .formed .ensures) ∙ c .before .before .before .before .before .if2 .left;
-      sends = length-drop 5 (now (c .before .before .before .before .before .before .before .before .before .before .before .before .before .before .before .args .command)) ∙ c .before .before .if3 .left ∙ c .before .before .before .sent .ensures;
-    })))
+    (λ c κs. (
+      c .before .before .before .before .before .before .before .before .before .before .before .before .before .before .before .pre .0,
+      (
+        c .before .before .before .before .before .before .before .before .before .before .before .before .before .before .before .pre .1,
+        record {
+          p1 = omega (arith, c .before .before .before .before .before .before .before .before .before .before .before .before .before .shared-slice-known .given 2);
+          p2 = omega (arith, c .before .before .before .before .before .before .before .before .before .before .before .before .before .shared-slice-known .given 3);
+          p3 = omega (arith, c .before .before .before .before .before .before .before .before .before .before .before .before .before .shared-slice-known .given 4);
+          form = sym (c .before .before .before .before .before .before .formed .ensures) ∙ c .before .before .before .before .before .if2 .left;
+          sends = length-drop 5 (now (c .before .before .before .before .before .before .before .before .before .before .before .before .before .before .before .args .command)) ∙ c .before .before .if3 .left ∙ c .before .before .before .sent .ensures;
+        },
+      ),
+    ))
     (λ c. search needs)
     (λ c. search needs)
     (λ c. let a = c .before .before .before .before .before .before .before .before .before .before .before .before .before .before .before .before .before .before .before .before .args in
