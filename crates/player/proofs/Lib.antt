@@ -1,3 +1,4 @@
 pub mod Rooms
 pub mod Endings
 pub mod Ways
+pub mod OneOutcome

@@ -10,13 +10,19 @@ use shelf_check::session_fits;
 ghost use lib.ListN.{length};
 ghost use Rattle.acts.specs.Ready.{Ready};
 ghost use Rattle.card.specs.Play.{play};
-ghost use Rattle.player.specs.Ends.{Ends};
+ghost use Rattle.player.specs.Ends.{Ends, played};
 
 // How a command ends: the host's answer, how many bytes of the room are the response, and the session afterwards.
 pub struct Played {
     pub answer: Answer,
     pub count: usize,
     pub session: Session,
+}
+
+// The same but for the session, which is stored where it was lent.
+pub struct Lent {
+    pub answer: Answer,
+    pub count: usize,
 }
 
 // Plays a command on an image and a session that were tested before. Only this player's crates call it.
@@ -48,4 +54,17 @@ pub fn play(image: &mut [u8], session: Session, command: &[u8], room: &mut [u8])
         return decline(Answer::DoesNotFit, session);
     }
     play_ready(image, session, command, room)
+}
+
+// Plays a command as `play` does, on a session that is lent.
+pub fn play_lent(image: &mut [u8], session: &mut Session, command: &[u8], room: &mut [u8]) -> Lent
+    ensures { λ r. ⌜ Ends (play (now (image .entry)) (now (session .entry)) (now (command .entry)) (length (now (room .entry))))
+        (played r (now (session .exit))) (now (image .exit)) (now (room .entry)) (now (room .exit)) ⌝ }
+{
+    let played = play(image, *session, command, room);
+    *session = played.session;
+    Lent {
+        answer: played.answer,
+        count: played.count,
+    }
 }

@@ -12,8 +12,6 @@ use Rattle.player.specs.Ends.{Ends}
 use Rattle.player.proofs.Endings.{roomy, carried, tail, rightly, spelled}
 use Rattle.player.proofs.perform.carry_out.Statement.{statement}
 use Rattle.player.proofs.perform.carry_out.Tie as tie
-use Rattle.player.proofs.perform.carry_out.Reads as reads
-use Rattle.player.proofs.perform.carry_out.Lts as lts
 
 pub carry-out-spec : {M : Type 1} → statement M
 carry-out-spec =
