@@ -4,6 +4,8 @@ mod line;
 
 ghost use Prim.Native.Nat.{_≤_};
 ghost use mathlib.Core.Path.{_≡_};
+ghost use mathlib.Core.Bool.{true};
+ghost use Rattle.acts.specs.Ready.{Ready};
 ghost use Rattle.card.specs.Sessions.{reset};
 ghost use lib.ListN.{length};
 use card::Current;
@@ -33,9 +35,11 @@ struct Turn {
     session: Session,
 }
 
-// Reads command k, plays it, and writes its line.
+// Reads command k, plays it, and writes its line. An image and a session that are known to be tested are not tested again.
 fn play_one(image: &mut [u8], session: Session, k: usize, space: &mut [u8], room: &mut [u8]) -> Turn
     requires { ⌜ 65536 ≤ length (now space) ⌝ }
+    requires { ⌜ (known ≡ true → Ready (now image) session) ⌝ }
+    ensures { λ t. ⌜ (known ≡ true → Ready (now (image .exit)) (t .session)) ⌝ }
 {
     let m = input::read_count();
     let n = m.value;
@@ -51,7 +55,7 @@ fn play_one(image: &mut [u8], session: Session, k: usize, space: &mut [u8], room
             session,
         };
     }
-    let played = player::play(image, session, &space[..n], room);
+    let played = runs::play_on(known, image, session, &space[..n], room);
     let answer = played.answer;
     let count = played.count;
     line::report(k, answer, &room[..count]);
@@ -65,12 +69,13 @@ fn play_one(image: &mut [u8], session: Session, k: usize, space: &mut [u8], room
 // Plays n commands on an image from a reset, and answers whether all of them came.
 fn play_all(image: &mut [u8], n: usize) -> bool {
     let mut session = reset();
+    let known = runs::tested(image, session);
     let mut space = [0u8; 65536];
     let mut room = [0u8; 258];
     let mut k = 0;
     while k < n {
         k += 1;
-        let t = play_one(image, session, k, &mut space, &mut room);
+        let t = play_one(known, image, session, k, &mut space, &mut room);
         if !t.came {
             return false;
         }
