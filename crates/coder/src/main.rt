@@ -5,8 +5,7 @@ use codings::Answer;
 use libc::STDIN_FILENO;
 use libc::STDOUT_FILENO;
 ghost use mathlib.Core.Path.{_≡_};
-ghost use mathlib.Core.Bool.{true};
-ghost use Prim.Native.Nat.{_+_, _*_, _≤_, _<_};
+ghost use Prim.Native.Nat.{_+_, _*_, _<_};
 ghost use lib.ListN.{length};
 
 fn put(text: &[u8]) {
@@ -48,16 +47,22 @@ fn line(number: u64, answer: Answer, file: &[u8], value: &[u8], room: &mut [u8])
     put(b"\n");
 }
 
-// One case on its bytes.
+// The line of a decode: the value's bytes are the first so many.
+fn line_of(number: u64, answer: Answer, file: &[u8], value: &[u8], count: usize, room: &mut [u8]) {
+    if count > value.len() {
+        return;
+    }
+    line(number, answer, file, &value[..count], room);
+}
+
+// One case: the line is written for what a decode shows, or for the value that was encoded.
 fn play(number: u64, kind: Kind, operation: u8, file: &mut [u8], value: &[u8], room: &mut [u8]) {
     if operation == 0 {
         let r = cases::decode(kind, value, file);
         let answer = r.answer;
         let shown = r.value;
         let count = r.count;
-        if count <= 20 {
-            line(number, answer, file, &shown[..count], room);
-        }
+        line_of(number, answer, file, &shown, count, room);
         return;
     }
     if operation == 1 {
@@ -69,9 +74,7 @@ fn play(number: u64, kind: Kind, operation: u8, file: &mut [u8], value: &[u8], r
 }
 
 // Reads so many bytes to the start of a buffer. Answers whether they were there.
-fn fill(buffer: &mut [u8], n: usize) -> bool
-    ensures { λ r. ⌜ (r ≡ true → n ≤ length (now (buffer .exit))) ⌝ }
-{
+fn fill(buffer: &mut [u8], n: usize) -> bool {
     if n > buffer.len() {
         return false;
     }
@@ -79,22 +82,37 @@ fn fill(buffer: &mut [u8], n: usize) -> bool
     got == n
 }
 
-// Reads one case and plays it. Answers whether its input was there.
-fn next(number: u64, file: &mut [u8], value: &mut [u8], room: &mut [u8]) -> bool {
-    let mut head = [0u8; 4];
-    if io::read_full(STDIN_FILENO, &mut head) < 4 {
-        return false;
-    }
-    let size = word(head[2], head[3]);
-    if !fill(file, size) {
-        return false;
-    }
+// Reads a count and so many bytes. Answers the count, or one that no buffer has where the input ends.
+fn fill_counted(buffer: &mut [u8]) -> usize {
     let mut count = [0u8; 2];
     if io::read_full(STDIN_FILENO, &mut count) < 2 {
+        return 65536;
+    }
+    let n = word(count[0], count[1]);
+    if !fill(buffer, n) {
+        return 65536;
+    }
+    n
+}
+
+// Reads one case and plays it. Answers whether its input was there.
+fn next(number: u64, file: &mut [u8], value: &mut [u8], room: &mut [u8]) -> bool {
+    let mut head = [0u8; 2];
+    if io::read_full(STDIN_FILENO, &mut head) < 2 {
         return false;
     }
-    let long = word(count[0], count[1]);
-    if !fill(value, long) {
+    let size = fill_counted(file);
+    if size >= 65536 {
+        return false;
+    }
+    let long = fill_counted(value);
+    if long >= 65536 {
+        return false;
+    }
+    if size > file.len() {
+        return false;
+    }
+    if long > value.len() {
         return false;
     }
     play(
@@ -108,6 +126,25 @@ fn next(number: u64, file: &mut [u8], value: &mut [u8], room: &mut [u8]) -> bool
     true
 }
 
+// All cases, one after the other.
+fn run(last: usize, file: &mut [u8], value: &mut [u8], room: &mut [u8]) {
+    let mut i = 0;
+    while i < last {
+        i += 1;
+        if !next(i as u64, file, value, room) {
+            short_input();
+            return;
+        }
+    }
+}
+
+// Room for the characters of a file's bytes.
+fn text_room() -> [u8; 131072]
+    ensures { λ r. ⌜ 131072 ≡ length r ⌝ }
+{
+    [0; 131072]
+}
+
 fn main() {
     let mut count = [0u8; 2];
     if io::read_full(STDIN_FILENO, &mut count) < 2 {
@@ -115,15 +152,8 @@ fn main() {
         return;
     }
     let last = word(count[0], count[1]);
-    let mut file = [0u8; 65536];
-    let mut value = [0u8; 65536];
-    let mut room = [0u8; 131072];
-    let mut i = 0;
-    while i < last {
-        i += 1;
-        if !next(i as u64, &mut file, &mut value, &mut room) {
-            short_input();
-            return;
-        }
-    }
+    let mut file = io::large_buffer();
+    let mut value = io::large_buffer();
+    let mut room = text_room();
+    run(last, &mut file, &mut value, &mut room);
 }

@@ -53,6 +53,7 @@ fn two_or_three(n: u8) -> bool
     false
 }
 
+// The mode and the MNC length of a file.
 pub fn decode(s: &[u8]) -> Admin
     ensures { λ r. ⌜ told (r .answer) (setting (r .mode) (r .mnc)) ≡ decode (now (s .entry)) ⌝ }
 {
@@ -93,6 +94,7 @@ pub fn decode(s: &[u8]) -> Admin
     }
 }
 
+// Mode and MNC length into the lent file, whose other bits are kept.
 pub fn encode(mode: u8, mnc: MncLength, s: &mut [u8]) -> Answer
     ensures { λ r. ⌜ told r (now (s .exit)) ≡ encode (setting mode mnc) (now (s .entry)) ⌝ }
 {

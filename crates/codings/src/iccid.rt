@@ -27,6 +27,7 @@ fn refused(answer: Answer) -> Iccid
     }
 }
 
+// The digits of a file.
 pub fn decode(s: &[u8]) -> Iccid
     ensures { λ r. ⌜ Shows r (decode (now (s .entry))) ⌝ }
 {
@@ -50,6 +51,7 @@ pub fn decode(s: &[u8]) -> Iccid
     }
 }
 
+// The file of these digits, in the lent room.
 pub fn encode(digits: &[u8], room: &mut [u8]) -> Answer
     ensures { λ r. ⌜ told r (now (room .exit)) ≡ encode (now (digits .entry)) (now (room .entry)) ⌝ }
 {

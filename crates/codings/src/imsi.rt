@@ -43,6 +43,7 @@ fn mark(count: usize) -> u8
     1
 }
 
+// The digits of a file.
 pub fn decode(s: &[u8]) -> Imsi
     ensures { λ r. ⌜ Shows r (decode (now (s .entry))) ⌝ }
 {
@@ -73,6 +74,7 @@ pub fn decode(s: &[u8]) -> Imsi
     }
 }
 
+// The file of these digits, in the lent room.
 pub fn encode(digits: &[u8], room: &mut [u8]) -> Answer
     ensures { λ r. ⌜ told r (now (room .exit)) ≡ encode (now (digits .entry)) (now (room .entry)) ⌝ }
 {

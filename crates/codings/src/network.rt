@@ -53,6 +53,7 @@ fn network(hs: [u8; 6]) -> Plmn
     }
 }
 
+// The entry of three bytes.
 pub fn decode(s: &[u8]) -> Entry
     ensures { λ r. ⌜ told (r .answer) (r .entry) ≡ decode (now (s .entry)) ⌝ }
 {
@@ -92,6 +93,7 @@ fn put3(room: &mut [u8], a: u8, b: u8, c: u8)
     room[2] = c;
 }
 
+// The three bytes of an entry, in the lent room.
 pub fn encode(e: Plmn, room: &mut [u8]) -> Answer
     ensures { λ r. ⌜ told r (now (room .exit)) ≡ encode e (now (room .entry)) ⌝ }
 {

@@ -67,6 +67,7 @@ fn changed(b: u8, i: usize, v: Service) -> u8
     b - p * u + q * u
 }
 
+// What the table says of service n.
 pub fn read(s: &[u8], n: usize) -> Look
     ensures { λ r. ⌜ told (r .answer) (r .service) ≡ read (now (s .entry)) n ⌝ }
 {
@@ -97,6 +98,7 @@ pub fn read(s: &[u8], n: usize) -> Look
     }
 }
 
+// Service n of the lent table; all other bits are kept.
 pub fn write(s: &mut [u8], n: usize, v: Service) -> Answer
     ensures { λ r. ⌜ told r (now (s .exit)) ≡ write (now (s .entry)) n v ⌝ }
 {

@@ -46,6 +46,7 @@ pub fn bits(bit1: bool, bit2: bool) -> u8
     0
 }
 
+// The bits and the name of a file.
 pub fn decode(s: &[u8]) -> Spn
     ensures { λ r. ⌜ Shows r (decode (now (s .entry))) ⌝ }
 {
@@ -71,6 +72,7 @@ pub fn decode(s: &[u8]) -> Spn
     }
 }
 
+// The file of these bits and this name, in the lent room.
 pub fn encode(bit1: bool, bit2: bool, name: &[u8], room: &mut [u8]) -> Answer
     ensures { λ r. ⌜ told r (now (room .exit)) ≡ encode (provider bit1 bit2 (now (name .entry))) (now (room .entry)) ⌝ }
 {

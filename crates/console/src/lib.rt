@@ -36,7 +36,14 @@ struct Turn {
 }
 
 // Reads command k, plays it, and writes its line. An image and a session that are known to be tested are not tested again.
-fn play_one(image: &mut [u8], session: Session, k: usize, space: &mut [u8], room: &mut [u8]) -> Turn
+fn play_one(
+    known: bool,
+    image: &mut [u8],
+    session: Session,
+    k: usize,
+    space: &mut [u8],
+    room: &mut [u8],
+) -> Turn
     requires { ⌜ 65536 ≤ length (now space) ⌝ }
     requires { ⌜ (known ≡ true → Ready (now image) session) ⌝ }
     ensures { λ t. ⌜ (known ≡ true → Ready (now (image .exit)) (t .session)) ⌝ }

@@ -1,31 +1,25 @@
+-- `coder::fill` meets its contract.
+use mathlib.Core.Path.{sym}
 use borrow.Author.Needs.{needs}
+use lib.Seq.{length-take-le}
 use Rattle.coder.proofs.fill.Statement.{statement}
 use Rattle.coder.proofs.fill.Tie as tie
-use Rattle.coder.proofs.fill.Reads as reads
-use Rattle.coder.proofs.fill.Lts as lts
-use Rattle.io.proofs.read_full.Reads as read-full-reads
 
--- src/main.rt:83:9
 returns : tie.Need-returns
-returns c = ?
+returns c = search needs
 
--- src/main.rt:85:43
 slice-relend-prefix-read-full : tie.Need-slice-relend-prefix-read-full
 slice-relend-prefix-read-full c = search needs
 
--- src/main.rt:85:43
 slice-aggregate-read-full : tie.Need-slice-aggregate-read-full
-slice-aggregate-read-full c = ?
+slice-aggregate-read-full c = sym (length-take-le _ _ (slice-relend-prefix-read-full (c .before)))
 
--- src/main.rt:85:9
 read-full-requires : tie.Need-read-full-requires
 read-full-requires c κs = search needs
 
--- src/main.rt:79:1
 same-length : tie.Need-same-length
 same-length c = search needs
 
--- src/main.rt:79:1
 returns-2 : tie.Need-returns-2
 returns-2 c = search needs
 

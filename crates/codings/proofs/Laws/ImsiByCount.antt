@@ -16,18 +16,12 @@ use Rattle.codings.specs.Imsi as imsi
 use Rattle.codings.specs.Imsi.{Shows, mark, size, odd, even}
 use Rattle.codings.specs.ImsiByCount.{digitsIn, numbered, decode, ByCount}
 use Rattle.codings.specs.declared.imsi.Imsi.{Imsi}
-use Rattle.codings.proofs.Laws.Bytes.{both}
+use Rattle.codings.proofs.Laws.Bytes.{both, iff, or-true}
 use Rattle.fields.proofs.Laws.Fields.{filled-is}
 use Rattle.codings.proofs.Laws.Imsi.{odd as is-odd, even as is-even}
 use Rattle.codings.proofs.Laws.ImsiTrip.{Told, told}
 use Rattle.fields.proofs.Laws.Text.{fills, lead-le, closed-padded, text-padded, text-length, text-within, padded-text, taken}
 use Rattle.fields.proofs.Laws.Halves.{halves-length, halves-append, halves-fill, halves-take, halves-drop, same-halves}
-
--- two tests that follow from each other
-iff : (a b : Bool) → (a ≡ true → b ≡ true) → (b ≡ true → a ≡ true) → a ≡ b
-iff true b f g = sym (f refl)
-iff false true f g = g refl
-iff false false f g = refl
 
 -- What both readings say of the first byte n and the others xs: their halves are the mark, the digits t, and F.
 pub record Form (n : ℕ) (xs t : List ℕ) : Type 0 where
@@ -92,10 +86,6 @@ told-form n xs e t =
           (sym (ap (λ (m : ℕ). padded 15 m (digitsIn (n ∷ xs))) (sym k) ∙ padded-text 10 15 (drop 1 (halves xs)) (t .shut)));
       long = t .bytes;
     }
-
-or-true : (a : Bool) → a || true ≡ true
-or-true true = refl
-or-true false = refl
 
 -- one element more than the text
 one-more : (t r : List ℕ) (x : ℕ) → take (suc (length t)) (t ++ (x ∷ r)) ≡ t ++ (x ∷ [])
