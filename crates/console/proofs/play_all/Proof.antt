@@ -1,3 +1,10 @@
+-- `console::play_all` meets its contract: what was tested at the start is so before each command.
+use Prim.Native.Nat.{_≤_, _-_}
+use mathlib.Core.Bool.{true}
+use mathlib.Core.Path.{_≡_}
+use lib.ListN.{length}
+use borrow.Author.Needs.{needs}
+use Rattle.acts.specs.Ready.{Ready}
 use Rattle.console.proofs.play_all.Statement.{statement}
 use Rattle.console.proofs.play_all.Tie as tie
 use Rattle.console.proofs.play_all.Reads as reads
@@ -7,62 +14,51 @@ use Rattle.console.proofs.reset.Reads as reset-reads
 use Rattle.runs.proofs.tested.Reads as tested-reads
 
 abbrev Inv-loop : tie.InvT-loop
-Inv-loop image₀ n session₀ known space₀ room₀ k₀ image session space room k = ?
+Inv-loop image₀ n session₀ known space₀ room₀ k₀ image session space room k =
+    (k ≤ n) × ((65536 ≡ length space) × ((258 ≡ length room) × ((length image ≡ length image₀) × (known ≡ true → Ready image session))))
 
 abbrev μ-loop : tie.MeasureT-loop
-μ-loop image₀ n session₀ known space₀ room₀ k₀ image session space room k = ?
+μ-loop image₀ n session₀ known space₀ room₀ k₀ image session space room k = n - k
 
--- src/lib.rt:78:9
 reset-requires : tie.Need-reset-requires Inv-loop μ-loop
-reset-requires c κs = ?
+reset-requires c κs = search needs
 
--- src/lib.rt:79:9
 tested-requires : tie.Need-tested-requires Inv-loop μ-loop
-tested-requires c κs = ?
+tested-requires c κs = search needs
 
--- src/lib.rt:83:5
 loop-holds : tie.Need-loop-holds Inv-loop μ-loop
-loop-holds c = ?
+loop-holds c = (search needs, (search needs, (search needs, (search needs, c .tested .ensures))))
 
--- src/lib.rt:84:9
 add-k : tie.Need-add-k Inv-loop μ-loop
-add-k c = ?
+add-k c = search needs
 
--- src/lib.rt:85:52
 slice-aggregate-play-one : tie.Need-slice-aggregate-play-one Inv-loop μ-loop
-slice-aggregate-play-one c = ?
+slice-aggregate-play-one c = search needs
 
--- src/lib.rt:85:64
 slice-aggregate-play-one-2 : tie.Need-slice-aggregate-play-one-2 Inv-loop μ-loop
-slice-aggregate-play-one-2 c = ?
+slice-aggregate-play-one-2 c = search needs
 
--- src/lib.rt:85:13
 play-one-requires : tie.Need-play-one-requires Inv-loop μ-loop
-play-one-requires c κs = ?
+play-one-requires c κs = search needs
 
--- src/lib.rt:87:13
 same-length : tie.Need-same-length Inv-loop μ-loop
-same-length c = ?
+same-length c = search needs
 
--- src/lib.rt:87:13
 returns : tie.Need-returns Inv-loop μ-loop
-returns c = ?
+returns c = search needs
 
--- src/lib.rt:83:5
 loop-less : tie.Need-loop-less Inv-loop μ-loop
-loop-less c = ?
+loop-less c = search needs
 
--- src/lib.rt:83:5
 loop-again : tie.Need-loop-again Inv-loop μ-loop
-loop-again c = ?
+loop-again c =
+    (search needs, (search needs, (search needs, (search needs, c .before .before .before .before .before .before .before .play-one .ensures))))
 
--- src/lib.rt:77:1
 same-length-2 : tie.Need-same-length-2 Inv-loop μ-loop
-same-length-2 c = ?
+same-length-2 c = search needs
 
--- src/lib.rt:77:1
 returns-2 : tie.Need-returns-2 Inv-loop μ-loop
-returns-2 c = ?
+returns-2 c = search needs
 
 pub play-all-spec : {M : Type 1} → statement M
 play-all-spec =

@@ -7,7 +7,7 @@ use Rattle.console.proofs.line.write_hex.Reads as reads
 use Rattle.console.proofs.line.write_hex.Lts as lts
 use Rattle.console.proofs.line.hexed.Reads as hexed-reads
 use Rattle.console.proofs.line.piece.Reads as piece-reads
-use Rattle.io.proofs.write_all.Reads as write-all-reads
+use Rattle.io.proofs.write_all.Reads as write-reads
 
 abbrev Inv-loop : tie.InvT-loop
 Inv-loop bytes at₀ at = at ≤ length bytes
@@ -48,12 +48,12 @@ array-share-prefix-text : tie.Need-array-share-prefix-text Inv-loop μ-loop
 array-share-prefix-text c = search needs
 
 -- src/line.rt:128:38
-slice-aggregate-write-all : tie.Need-slice-aggregate-write-all Inv-loop μ-loop
-slice-aggregate-write-all c = search needs
+slice-aggregate-write : tie.Need-slice-aggregate-write Inv-loop μ-loop
+slice-aggregate-write c = search needs
 
 -- src/line.rt:128:9
-write-all-requires : tie.Need-write-all-requires Inv-loop μ-loop
-write-all-requires c κs = search needs
+write-requires : tie.Need-write-requires Inv-loop μ-loop
+write-requires c κs = search needs
 
 -- src/line.rt:124:5
 loop-less : tie.Need-loop-less Inv-loop μ-loop
@@ -81,8 +81,8 @@ write-hex-spec =
     part-hexed-end
     hexed-requires
     array-share-prefix-text
-    slice-aggregate-write-all
-    write-all-requires
+    slice-aggregate-write
+    write-requires
     loop-less
     loop-again
     returns)
