@@ -6,28 +6,10 @@ ghost use Prim.Native.Nat.{_≤_};
 ghost use mathlib.Core.Path.{_≡_};
 ghost use mathlib.Core.Bool.{true};
 ghost use Rattle.acts.specs.Ready.{Ready};
-ghost use Rattle.card.specs.Sessions.{reset};
 ghost use lib.ListN.{length};
-use card::Current;
-use card::Pointer;
 use card::Session;
 use streams::input;
 use streams::short_input;
-
-// Master file, no EF, undefined, no marks, nothing waiting.
-fn reset() -> Session
-    ensures { λ r. ⌜ r ≡ reset ⌝ }
-{
-    Session {
-        directory: 0,
-        current: Current::Nothing,
-        pointer: Pointer::Undefined,
-        chv1: false,
-        chv2: false,
-        waiting: [0; 22],
-        count: 0,
-    }
-}
 
 // Whether a command came, and the session after it.
 struct Turn {
@@ -75,7 +57,7 @@ fn play_one(
 
 // Plays n commands on an image from a reset, and answers whether all of them came.
 fn play_all(image: &mut [u8], n: usize) -> bool {
-    let mut session = reset();
+    let mut session = runs::reset();
     let known = runs::tested(image, session);
     let mut space = [0u8; 65536];
     let mut room = [0u8; 258];

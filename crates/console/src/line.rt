@@ -1,7 +1,5 @@
 // What the playing program writes: a line a command.
-ghost use Prim.Native.Nat.{_+_, _≤_, _<_};
-ghost use mathlib.Core.Path.{_≡_};
-ghost use Rattle.card.specs.Answers.{number};
+ghost use Prim.Native.Nat.{_≤_, _<_};
 ghost use Rattle.io.specs.Counts.{Counts};
 use card::Answer;
 use streams::text::push;
@@ -9,26 +7,13 @@ use streams::text::push_hex;
 use streams::text::push_number;
 use streams::write;
 
-// The paper's number of the host's answer, as a digit.
-fn digit(a: Answer) -> u8
-    ensures { λ r. ⌜ r ≡ 48 + number a ⌝ }
-{
-    match a {
-        Answer::Played => b'0',
-        Answer::NotAnImage => b'1',
-        Answer::DoesNotFit => b'2',
-        Answer::RoomTooSmall => b'3',
-        Answer::WrongLength => b'4',
-    }
-}
-
 // Command number, host answer, response: how many bytes of the text they take.
 fn spell(text: &mut [u8], k: usize, answer: Answer, response: &[u8]) -> usize
     ensures { λ r. ⌜ Counts r (now (text .exit)) ⌝ }
 {
     let mut at = push_number(text, 0, k);
     at = push(text, at, b' ');
-    at = push(text, at, digit(answer));
+    at = push(text, at, b'0' + runs::number(answer));
     at = push(text, at, b' ');
     at = push_hex(text, at, response);
     push(text, at, b'\n')

@@ -1,5 +1,8 @@
 // Runs of commands on one image. It is tested once: an image stays an image and a session goes on fitting it, as the demands prove, so
 // each further command needs no test.
+use card::Answer;
+use card::Current;
+use card::Pointer;
 use card::Session;
 use player::Played;
 use shelf::read::index;
@@ -9,8 +12,39 @@ ghost use mathlib.Core.Path.{_≡_};
 ghost use mathlib.Core.Bool.{true};
 ghost use lib.ListN.{length};
 ghost use Rattle.acts.specs.Ready.{Ready};
+ghost use Prim.Native.Nat.{_<_};
+ghost use Rattle.card.specs.Answers.{number};
 ghost use Rattle.card.specs.Play.{play};
+ghost use Rattle.card.specs.Sessions.{reset};
 ghost use Rattle.player.specs.Ends.{Ends};
+
+// Master file, no EF, undefined, no marks, nothing waiting.
+pub fn reset() -> Session
+    ensures { λ r. ⌜ r ≡ reset ⌝ }
+{
+    Session {
+        directory: 0,
+        current: Current::Nothing,
+        pointer: Pointer::Undefined,
+        chv1: false,
+        chv2: false,
+        waiting: [0; 22],
+        count: 0,
+    }
+}
+
+// The paper's number of the host's answer.
+pub fn number(a: Answer) -> u8
+    ensures { λ r. ⌜ (r ≡ number a) × (r < 5) ⌝ }
+{
+    match a {
+        Answer::Played => 0,
+        Answer::NotAnImage => 1,
+        Answer::DoesNotFit => 2,
+        Answer::RoomTooSmall => 3,
+        Answer::WrongLength => 4,
+    }
+}
 
 // Whether these bytes are an image that the session fits. Where they are not, nothing is promised of later commands, and each is tested.
 pub fn tested(image: &[u8], session: Session) -> bool

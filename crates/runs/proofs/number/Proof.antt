@@ -1,17 +1,18 @@
--- `console::line::digit` meets its contract: a line a case.
-use Prim.Native.Nat.{ℕ, _+_}
+-- `runs::number` meets its contract: a line a case.
+use Prim.Native.Nat.{ℕ, _<_}
+use native.Mathlib.Omega.{arith}
 use mathlib.Core.Path.{_≡_, sym, ap}
 use Rattle.card.specs.Answers.{number}
 use Rattle.card.specs.declared.Answer.{Answer}
 use borrow.Author.Needs.{needs}
-use Rattle.console.proofs.line.digit.Statement.{statement}
-use Rattle.console.proofs.line.digit.Tie as tie
-use Rattle.console.proofs.line.digit.Reads as reads
-use Rattle.console.proofs.line.digit.Lts as lts
+use Rattle.runs.proofs.number.Statement.{statement}
+use Rattle.runs.proofs.number.Tie as tie
+use Rattle.runs.proofs.number.Reads as reads
+use Rattle.runs.proofs.number.Lts as lts
 
 -- what is written in an arm is written of the answer that was matched
-spoken : {a b : Answer} → a ≡ b → 48 + number b ≡ 48 + number a
-spoken e = ap (λ (x : Answer). 48 + number x) (sym e)
+spoken : {a b : Answer} → a ≡ b → number b < 5 → (number b ≡ number a) × (number b < 5)
+spoken e h = (ap (λ (x : Answer). number x) (sym e), h)
 
 enum-told : tie.Need-enum-told
 enum-told c = search needs
@@ -29,22 +30,22 @@ enum-told-5 : tie.Need-enum-told-5
 enum-told-5 c = search needs
 
 returns : tie.Need-returns
-returns c = spoken (c .enum-told .given .1)
+returns c = spoken (c .enum-told .given .1) (omega arith)
 
 returns-2 : tie.Need-returns-2
-returns-2 c = spoken (c .enum-told2 .given .1)
+returns-2 c = spoken (c .enum-told2 .given .1) (omega arith)
 
 returns-3 : tie.Need-returns-3
-returns-3 c = spoken (c .enum-told3 .given .1)
+returns-3 c = spoken (c .enum-told3 .given .1) (omega arith)
 
 returns-4 : tie.Need-returns-4
-returns-4 c = spoken (c .enum-told4 .given .1)
+returns-4 c = spoken (c .enum-told4 .given .1) (omega arith)
 
 returns-5 : tie.Need-returns-5
-returns-5 c = spoken (c .enum-told5 .given .1)
+returns-5 c = spoken (c .enum-told5 .given .1) (omega arith)
 
-pub digit-spec : {M : Type 1} → statement M
-digit-spec =
+pub number-spec : {M : Type 1} → statement M
+number-spec =
     tie.close
     (tie.spec
     enum-told
