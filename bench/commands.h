@@ -49,8 +49,8 @@ HOT int reached(const struct card *c, u32 high, u32 low)
     else if (high == 0x5F) at = own[0] == 0x5F ? own[2] : d;
     else return NONE;
     if (at == 0 && high == 0x5F) return NONE;
-    if (!(c->x->directories_below[at][low >> 6] >> (low & 63) & 1)) return NONE;
-    u32 found = c->x->directory_slot[at * 256 + low];
+    u32 found = c->x->directory_slot[at * 256 + low] ^ c->x->stamp;
+    if (found >= 256) return NONE;
     return own[0] == 0x5F && high == 0x7F && found != own[2] ? NONE : (int)found;
 }
 
@@ -59,8 +59,9 @@ HOT u32 play_select(struct card *c, const u8 *data)
     struct session *s = c->s;
     u32 d = s->directory, low = data[1];
     if (data[0] == c->x->high[d]) {
-        if (!(c->x->files_below[d][low >> 6] >> (low & 63) & 1)) return answer(c, 0, 0x9404);
-        s->file = c->x->file_slot[d * 256 + low];
+        u32 found = c->x->file_slot[d * 256 + low] ^ c->x->stamp;
+        if (found >= 256) return answer(c, 0, 0x9404);
+        s->file = (int)found;
         const u8 *entry = entry_of(c);
         s->pointer = entry[3] >> 1;
         wait_file(s, entry);

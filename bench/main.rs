@@ -8,7 +8,10 @@ mod measure;
 mod process;
 mod report;
 
+use std::io::Write;
+
 const USAGE: &str = "usage: bench check --second CMD --laps CMD...
+       bench input --files N --family N --mode N --laps N
        bench measure --rattle CMD --c CMD --out FILE --date DATE --machine TEXT [--rounds N] [--seconds N]";
 
 /// The words after `--name`, in their order.
@@ -30,7 +33,7 @@ fn count(words: &[String], name: &str, otherwise: u64) -> Result<u64, String> {
 fn measure(words: &[String]) -> Result<(), String> {
     let programs = [value(words, "--c")?, value(words, "--rattle")?];
     let rounds = count(words, "--rounds", 7)? as usize;
-    let seconds = count(words, "--seconds", 270)?;
+    let seconds = count(words, "--seconds", 230)?;
     let out = value(words, "--out")?;
     let head = report::Head { date: value(words, "--date")?, machine: value(words, "--machine")? };
     let results = measure::all(&programs, rounds, seconds)?;
@@ -38,10 +41,20 @@ fn measure(words: &[String]) -> Result<(), String> {
     std::fs::write(&out, text).map_err(|error| format!("{out}: {error}"))
 }
 
+/// The input of one case goes to standard output, to look closer at it by hand.
+fn input(words: &[String]) -> Result<(), String> {
+    let files = count(words, "--files", 60)?.clamp(5, 200) as usize;
+    let family = lists::FAMILIES.get(count(words, "--family", 0)? as usize).ok_or("no such family")?;
+    let playing = lists::playing(&cards::image(files), &lists::commands(family));
+    let input = lists::laps(count(words, "--mode", 0)? as u8, count(words, "--laps", 100)? as u16, &playing);
+    std::io::stdout().write_all(&input).map_err(|error| error.to_string())
+}
+
 fn main() {
     let words: Vec<String> = std::env::args().skip(1).collect();
     let ended = match words.first().map(String::as_str) {
         Some("check") => check::run(&words),
+        Some("input") => input(&words),
         Some("measure") => measure(&words),
         _ => Err(USAGE.to_string()),
     };

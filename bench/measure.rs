@@ -10,6 +10,11 @@ const FEW: u16 = 1;
 const WANTED: f64 = 0.16;
 const ENOUGH: f64 = 0.03;
 
+/// Laps to begin with: a guess that is corrected.
+fn guess(files: usize, mode: u8) -> u16 {
+    if mode == 0 { (24_000 / (files + 10)) as u16 } else { 5000 }
+}
+
 /// One family on one image in one mode. Times are seconds for one command, one for each round, of the C player and the Rattle program.
 pub struct Case {
     pub files: usize,
@@ -25,7 +30,8 @@ impl Case {
     fn new(files: usize, family: &Family, mode: u8) -> Case {
         let commands = lists::commands(family);
         let playing = lists::playing(&cards::image(files), &commands);
-        Case { files, family: family.name, mode, laps: 20, times: [Vec::new(), Vec::new()], playing, commands: commands.len() }
+        let times = [Vec::new(), Vec::new()];
+        Case { files, family: family.name, mode, laps: guess(files, mode), times, playing, commands: commands.len() }
     }
 
     /// Seconds of both programs for that many laps; their sums must be equal.

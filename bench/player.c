@@ -118,7 +118,7 @@ int main(int count, char **words)
 {
     int tell = count == 2 && is(words[1], "--image"), laps = count == 2 && is(words[1], "laps");
     if (count > 2 || (count == 2 && !tell && !laps)) return 2;
-    prepare();
+    prepare_shapes();
     prepare_session();
     if (!(laps ? play_laps() : play_all())) {
         put_text("short input");

@@ -43,21 +43,8 @@ HOT int fits(const struct session *s, const u8 *image, const struct index *x)
     if (s->file == NONE) return s->pointer == 0;
     if ((u32)s->file >= x->files) return 0;
     const u8 *entry = image + x->entries + ENTRY * (u32)s->file;
-    return entry[2] == s->directory && s->pointer <= records(number(entry + 10), entry[4]);
-}
-
-/* Marks of one directory, counted. */
-HOT u32 count_marks(const u64 *marks)
-{
-    u64 sum = 0;
-    for (u32 i = 0; i < 4; i++) {
-        u64 v = marks[i];
-        v -= v >> 1 & 0x5555555555555555ul;
-        v = (v & 0x3333333333333333ul) + (v >> 2 & 0x3333333333333333ul);
-        sum += (v + (v >> 4)) & 0x0F0F0F0F0F0F0F0Ful;
-    }
-    sum = (sum & 0x00FF00FF00FF00FFul) + (sum >> 8 & 0x00FF00FF00FF00FFul);
-    return (u32)(sum * 0x0001000100010001ul >> 48);
+    if (entry[2] != s->directory) return 0;
+    return s->pointer == 0 || (entry[3] != 0 && s->pointer <= records(number(entry + 10), entry[4]));
 }
 
 /* The 22 bytes of a directory, and two zeros, in three words. */
@@ -67,8 +54,7 @@ HOT void tell_directory(u64 *words, const u8 *image, const struct index *x, u32 
     u32 one = load4(image + 2), two = load4(image + 22);
     u64 features = (e >> 24 & 0xFF) | (one & 1) << 7;
     words[0] = (e >> 32 & 0xFFFF) << 16 | (e & 0xFFFF) << 32 | (d == 0 ? 1ul : 2ul) << 48;
-    words[1] = 9ul << 32 | features << 40 | (u64)count_marks(x->directories_below[d]) << 48
-        | (u64)count_marks(x->files_below[d]) << 56;
+    words[1] = 9ul << 32 | features << 40 | (u64)x->children[d] << 48 | (u64)x->elements[d] << 56;
     words[2] = (e >> 48 & 0xFF) | (u64)((one & 0x80) + (one >> 8 & 0xFF)) << 16
         | (u64)((one & 0x40) * 2 + (one >> 16 & 0xFF)) << 24 | (u64)((two & 0x80) + (two >> 8 & 0xFF)) << 32
         | (u64)((two & 0x40) * 2 + (two >> 16 & 0xFF)) << 40;

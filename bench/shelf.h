@@ -10,26 +10,48 @@ typedef unsigned long u64;
 
 enum { CODES = 2, DIRECTORIES = 42, MOST_DIRECTORIES = 32, MOST_FILES = 200, MOST_BYTES = 24576, ENTRY = 14 };
 
-/* Where things are. `below` marks the identifiers used under each directory by their low byte: the high byte follows from the
-   directory. A slot has a meaning only where its mark is set. */
+/* Where things are. An entry is known by its parent's number and the low byte of its identifier: the high byte follows from the parent.
+   A slot holds `stamp` plus the entry's number where this image has the entry; other slots are left over from earlier images. */
 struct index {
     u32 directories, files;
     u32 entries, bytes;
-    u64 files_below[MOST_DIRECTORIES][4];
-    u64 directories_below[MOST_DIRECTORIES][4];
-    u32 start[MOST_FILES];
-    u8 file_slot[MOST_DIRECTORIES * 256];
-    u8 directory_slot[MOST_DIRECTORIES * 256];
-    u16 children[MOST_DIRECTORIES]; /* the high byte of a child directory's identifier, or 256 */
-    u8 high[MOST_DIRECTORIES];      /* the high byte of a file's identifier */
+    u32 stamp;                       /* a multiple of 256, another for each image */
+    u32 children[MOST_DIRECTORIES];  /* directories below */
+    u32 elements[MOST_DIRECTORIES];  /* files below */
+    u32 start[MOST_FILES];           /* of a file's bytes */
+    u64 high[MOST_DIRECTORIES];      /* the high byte of its files' identifiers, or NOWHERE */
+    u32 wanted[MOST_DIRECTORIES];    /* the high byte of its directories' identifiers, or 256 */
+    u32 file_slot[MOST_DIRECTORIES * 256];
+    u32 directory_slot[MOST_DIRECTORIES * 256];
 };
 
-/* 2^24 / n rounded up: (size * inverse[n]) >> 24 is size / n for every size of 16 bits. 0 for n = 0. */
-static u32 inverse[256];
+/* No masked entry has this bit. */
+#define NOWHERE (1ul << 48)
 
-static void prepare(void)
+/* What a file of one structure and record length may be. size * inverse holds the number of records above 32 bits, and below them at
+   most `rest` exactly if the size is a whole number of records. */
+struct shape {
+    u64 inverse;
+    long rest, most;
+    u64 zeros, more_zeros; /* bits that are 0 or told by the directory; in bytes 0 to 7 and 6 to 13 */
+    u64 unused[3];
+};
+
+static struct shape shapes[4 * 256];
+
+static void prepare_shape(struct shape *shape, u32 structure, u32 length)
 {
-    for (u32 n = 1; n < 256; n++) inverse[n] = ((1u << 24) + n - 1) / n;
+    int sound = structure == 0 ? length == 0 : structure != 2 && length != 0;
+    shape->inverse = length == 0 ? 1ul << 32 : ((1ul << 32) + length - 1) / length;
+    shape->rest = sound ? (long)shape->inverse - 1 : -1;
+    shape->most = structure == 0 ? 65535 : 254;
+    shape->zeros = (structure == 3 && length == 3 ? 0xBFul : 0xFFul) << 40 | 0xFCE000FFul;
+    shape->more_zeros = structure == 3 ? 0xFF000000FA000F00ul : 0xFFFF0000FA000F00ul;
+}
+
+static void prepare_shapes(void)
+{
+    for (u32 i = 0; i < 4 * 256; i++) prepare_shape(&shapes[i], i / 256, i % 256);
 }
 
 HOT u64 load8(const u8 *p) { u64 v; __builtin_memcpy(&v, p, 8); return v; }
@@ -38,101 +60,97 @@ HOT u32 load2(const u8 *p) { u16 v; __builtin_memcpy(&v, p, 2); return v; }
 HOT void store8(u8 *p, u64 v) { __builtin_memcpy(p, &v, 8); }
 HOT void store4(u8 *p, u32 v) { __builtin_memcpy(p, &v, 4); }
 HOT void store2(u8 *p, u32 v) { u16 w = (u16)v; __builtin_memcpy(p, &w, 2); }
-HOT u32 number(const u8 *p) { return __builtin_bswap16((u16)load2(p)); }
+HOT u32 number(const u8 *p) { return (u32)p[0] << 8 | p[1]; }
 
-/* Records of a file of that size; 0 for a transparent one. */
-HOT u32 records(u32 size, u32 length) { return (u32)(((u64)size * inverse[length]) >> 24); }
-
-HOT void clear(u64 *marks) { marks[0] = marks[1] = marks[2] = marks[3] = 0; }
-
-/* Sets a mark; 1 if it was set before. */
-HOT u32 mark(u64 *marks, u32 low)
-{
-    u64 old = marks[low >> 6];
-    marks[low >> 6] = old | 1ul << (low & 63);
-    return (u32)(old >> (low & 63)) & 1;
-}
+/* Records of a file with records. */
+HOT u32 records(u32 size, u32 length) { return (u32)(size * shapes[256 + length].inverse >> 32); }
 
 /* Flags, attempts, unblock attempts, a zero. */
 HOT u32 bad_code(u32 head, u32 unused)
 {
-    return (head & (unused | 0xFF00FC00u)) | ((head >> 16 & 0xFF) > 10);
+    return (head & (unused | 0xFF00FC00u)) | ((head & 0xFF0000) > 0xA0000);
+}
+
+/* Takes a slot; negative if it is taken. */
+HOT long take_slot(u32 *slot, u32 stamped)
+{
+    long free = (long)(u64)(*slot ^ stamped) - 256;
+    *slot = stamped;
+    return free;
 }
 
 /* Rules are gathered, not left at the first: `bad` must stay 0, and `under` must not become negative. */
-HOT u32 bad_directories(const u8 *image, u32 count, struct index *x)
+HOT int bad_directories(const u8 *entry, u32 count, struct index *x)
 {
-    const u8 *entry = image + DIRECTORIES + 2;
     u64 bad = (load8(entry) & 0xFF00000080FFFFFFul) ^ 0x3F;
-    int under = 0;
-    x->children[0] = 0x7F;
+    long under = 0;
+    x->wanted[0] = 0x7F;
     x->high[0] = 0x2F;
-    clear(x->files_below[0]);
-    clear(x->directories_below[0]);
+    x->children[0] = x->elements[0] = 0;
     for (u32 i = 1; i < count; i++) {
         u64 e = load8(entry += 8);
-        u32 parent = e >> 16 & 31, low = e >> 8 & 0xFF, wanted = x->children[parent];
-        bad |= (e & 0xFF00000080E00000ul) | ((e & 0xFF) ^ wanted);
-        under |= (int)(i - 1 - parent);
-        x->children[i] = wanted == 0x7F ? 0x5F : 0x100;
-        x->high[i] = (u8)(wanted ^ 0x10);
-        clear(x->files_below[i]);
-        clear(x->directories_below[i]);
-        bad |= mark(x->directories_below[parent], low);
-        x->directory_slot[parent * 256 + low] = (u8)i;
+        u32 parent = e >> 16 & 31, wanted = x->wanted[parent];
+        bad |= (e & 0xFF00000080E000FFul) ^ wanted;
+        under |= (long)i - 1 - parent;
+        x->wanted[i] = wanted == 0x7F ? 0x5F : 256;
+        x->high[i] = wanted ^ 0x10;
+        x->children[i] = x->elements[i] = 0;
+        x->children[parent]++;
+        under |= take_slot(&x->directory_slot[e >> 8 & 0x1FFF], x->stamp + i);
     }
+    for (u32 i = count; i < MOST_DIRECTORIES; i++) x->high[i] = NOWHERE;
     return (bad != 0) | (under < 0);
 }
 
-/* One file's entry. Its bytes start at `start`; gives its size. */
-HOT u32 bad_file(const u8 *entry, u32 directories, struct index *x, u64 *bad, int *under)
+HOT int bad_files(const u8 *entry, u32 count, struct index *x, u32 *sum)
 {
-    u64 e = load8(entry), rest = load8(entry + 6);
-    u32 directory = e >> 16 & 31, low = e >> 8 & 0xFF, structure = e >> 24 & 0xFF, length = e >> 32 & 0xFF;
-    u32 size = __builtin_bswap16((u16)(rest >> 32)), top = rest >> 48 & 0xFF;
-    u32 many = records(size, length);
-    u32 plain = 0u - (structure == 0), cyclic = 0u - (structure >> 1 & 1);
-    u32 rising = (u32)(e >> 24 & 0xFFFF) == 0x0303 ? 0x40 : 0;
-    /* Second access byte, status and the last zero; the directory's number; structure 2 and above 3; the increase byte. */
-    *bad |= (rest & 0xFF000000FA000F00ul) | (e & 0xE00000) | (structure & ((~(structure << 1) & 2) | 0xFC));
-    *bad |= ((e & 0xFF) ^ x->high[directory]) | (e >> 40 & 0xFF & ~(u64)rising);
-    *bad |= (plain & length) | (~plain & (size - many * length));
-    *bad |= mark(x->files_below[directory], low);
-    many -= plain;
-    *under |= (int)(directories - 1 - directory) | (int)(size - 1) | (int)(many - 1) | (int)(254 - many);
-    *under |= (int)((cyclic & (many - 1)) - top);
-    return size;
-}
-
-HOT u32 bad_files(const u8 *image, struct index *x, u32 *sum)
-{
-    const u8 *entry = image + x->entries;
-    u64 bad = 0;
-    int under = 0;
-    u32 start = 0;
-    for (u32 k = 0; k < x->files; k++, entry += ENTRY) {
-        x->start[k] = start;
-        x->file_slot[entry[2] % 32 * 256u + entry[1]] = (u8)k;
-        start += bad_file(entry, x->directories, x, &bad, &under);
+    const u8 *end = entry + ENTRY * count;
+    u64 bad = 0, begins = 0;
+    long under = 0;
+    u32 *start = x->start, stamped = x->stamp;
+    for (; entry != end; entry += ENTRY) {
+        u64 e = load8(entry), at = e >> 8 & 0x1FFF;
+        const struct shape *shape = &shapes[__builtin_bswap64(e) >> 24 & 0x3FF];
+        bad |= (e & shape->zeros) ^ x->high[at >> 8];
+        under |= take_slot(&x->file_slot[at], stamped++);
+        x->elements[at >> 8]++;
+        u64 f = load8(entry + 6), turned = __builtin_bswap64(f), size = turned >> 16 & 0xFFFF;
+        u64 product = size * shape->inverse;
+        long many = (long)(product >> 32), top = turned >> 8 & 0xFF;
+        bad |= f & shape->more_zeros;
+        under |= (shape->rest - (long)(product & 0xFFFFFFFF)) | (shape->most - many) | (many - 1 - top);
+        *start++ = (u32)begins;
+        begins += size;
     }
-    *sum = start;
+    *sum = (u32)begins;
     return (bad != 0) | (under < 0);
 }
 
-/* Whether these bytes are an image; if so the index is filled. */
-HOT int is_image(const u8 *image, u32 length, struct index *x)
+static void next_stamp(struct index *x)
+{
+    x->stamp += 256;
+    if (x->stamp != 0) return;
+    for (u32 i = 0; i < MOST_DIRECTORIES * 256; i++) x->file_slot[i] = x->directory_slot[i] = 0;
+    x->stamp = 256;
+}
+
+/* Whether these bytes are an image; if so the index is filled. It stands in one page of code: under the emulator a loop that crosses into
+   another takes half as long again. */
+static __attribute__((noinline, aligned(4096))) int is_image(const u8 *image, u32 length, struct index *x)
 {
     u32 sum;
     if (length < DIRECTORIES + 2 + 8 + 2 + 2 || load2(image) != 0x0200) return 0;
     if (bad_code(load4(image + 2), 0x3E) | bad_code(load4(image + 22), 0x3F)) return 0;
-    x->directories = number(image + DIRECTORIES);
-    if (x->directories - 1 >= MOST_DIRECTORIES) return 0;
-    x->entries = DIRECTORIES + 2 + 8 * x->directories + 2;
-    if (x->entries + 2 > length) return 0;
-    x->files = number(image + x->entries - 2);
-    if (x->files > MOST_FILES) return 0;
-    x->bytes = x->entries + ENTRY * x->files + 2;
-    if (x->bytes > length) return 0;
-    if (bad_directories(image, x->directories, x) | bad_files(image, x, &sum)) return 0;
-    return sum <= MOST_BYTES && sum == number(image + x->bytes - 2) && x->bytes + sum == length;
+    u32 directories = number(image + DIRECTORIES), entries = DIRECTORIES + 2 + 8 * directories + 2;
+    if (directories - 1 >= MOST_DIRECTORIES || entries + 2 > length) return 0;
+    u32 files = number(image + entries - 2), bytes = entries + ENTRY * files + 2;
+    if (files > MOST_FILES || bytes > length) return 0;
+    x->directories = directories;
+    x->entries = entries;
+    x->files = files;
+    x->bytes = bytes;
+    next_stamp(x);
+    if (bad_directories(image + DIRECTORIES + 2, directories, x)) return 0;
+    if (bad_files(image + entries, files, x, &sum)) return 0;
+    return sum <= MOST_BYTES && sum == number(image + bytes - 2) && bytes + sum == length;
 }
