@@ -7,7 +7,7 @@ use std::time::Instant;
 /// The shorter run, whose time is taken away.
 const FEW: u16 = 1;
 /// Processor time that both programs' longer runs together should take, and the least that tells anything, in seconds.
-const WANTED: f64 = 0.16;
+const WANTED: f64 = 0.12;
 const ENOUGH: f64 = 0.03;
 
 /// Laps to begin with: a guess that is corrected.
@@ -22,6 +22,7 @@ pub struct Case {
     pub mode: u8,
     pub laps: u16,
     pub times: [Vec<f64>; 2],
+    few: [f64; 2],
     playing: Vec<u8>,
     commands: usize,
 }
@@ -30,8 +31,16 @@ impl Case {
     fn new(files: usize, family: &Family, mode: u8) -> Case {
         let commands = lists::commands(family);
         let playing = lists::playing(&cards::image(files), &commands);
-        let times = [Vec::new(), Vec::new()];
-        Case { files, family: family.name, mode, laps: guess(files, mode), times, playing, commands: commands.len() }
+        Case {
+            files,
+            family: family.name,
+            mode,
+            laps: guess(files, mode),
+            times: [Vec::new(), Vec::new()],
+            few: [0.0; 2],
+            playing,
+            commands: commands.len(),
+        }
     }
 
     /// Seconds of both programs for that many laps; their sums must be equal.
@@ -48,12 +57,14 @@ impl Case {
 
     /// Seconds of both programs for the laps beyond the few.
     fn beyond(&self, programs: &[String; 2]) -> Result<[f64; 2], String> {
-        let few = self.both(programs, FEW)?;
         let many = self.both(programs, self.laps)?;
-        Ok([many[0] - few[0], many[1] - few[1]])
+        Ok([many[0] - self.few[0], many[1] - self.few[1]])
     }
 
-    fn find_laps(&mut self, programs: &[String; 2]) -> Result<(), String> {
+    /// Times the few laps, and finds how many laps the rounds take.
+    fn set_out(&mut self, programs: &[String; 2]) -> Result<(), String> {
+        let (one, other) = (self.both(programs, FEW)?, self.both(programs, FEW)?);
+        self.few = [(one[0] + other[0]) / 2.0, (one[1] + other[1]) / 2.0];
         loop {
             let sum: f64 = self.beyond(programs)?.iter().sum();
             if sum >= ENOUGH || self.laps == u16::MAX {
@@ -90,7 +101,7 @@ pub fn all(programs: &[String; 2], rounds: usize, seconds: u64) -> Result<Result
         }
     }
     for case in &mut cases {
-        case.find_laps(programs)?;
+        case.set_out(programs)?;
     }
     let mut done = 0;
     while done < rounds {
