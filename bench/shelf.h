@@ -16,6 +16,7 @@ struct index {
     u32 directories, files;
     u32 entries, bytes;
     u32 stamp;                       /* a multiple of 256, another for each image */
+    u32 nowhere;                     /* so many at the end of `high` are NOWHERE */
     u32 children[MOST_DIRECTORIES];  /* directories below */
     u32 elements[MOST_DIRECTORIES];  /* files below */
     u32 start[MOST_FILES];           /* of a file's bytes */
@@ -98,7 +99,8 @@ HOT int bad_directories(const u8 *entry, u32 count, struct index *x)
         x->children[parent]++;
         under |= take_slot(&x->directory_slot[e >> 8 & 0x1FFF], x->stamp + i);
     }
-    for (u32 i = count; i < MOST_DIRECTORIES; i++) x->high[i] = NOWHERE;
+    for (u32 i = count; i < MOST_DIRECTORIES - x->nowhere; i++) x->high[i] = NOWHERE;
+    x->nowhere = MOST_DIRECTORIES - count;
     return (bad != 0) | (under < 0);
 }
 
