@@ -38,7 +38,7 @@ one-outcome o r r′ was image image′ room room′ x y =
     let a : r .answer ≡ r′ .answer = apart (r .answer) (r′ .answer) (x .answer ∙ sym (y .answer)) in
     let c : r .count ≡ r′ .count = x .count ∙ sym (y .count) in
     let s : r .session ≡ r′ .session = x .session ∙ sym (y .session) in
-    (cc, (x .image′ ∙ sym (y .image′), x .room ∙ sym (y .room)))
+    ((λ i. record { answer = a i; count = c i; session = s i }), (x .image′ ∙ sym (y .image′), x .room ∙ sym (y .room)))
 
 pub one-lent : OneLent
 one-lent o r r′ s s′ was image image′ room room′ x y =
