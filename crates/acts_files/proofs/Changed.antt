@@ -1,5 +1,5 @@
 -- A command that writes the current file's bytes, its top or its mark, carried out: laws over any command of its kind.
-use Prim.Native.Nat.{ℕ, _+_, _-_, _≤_, _<_}
+use Prim.Native.Nat.{ℕ, _+_, _≤_, _<_}
 use mathlib.Core.Path.{_≡_, refl, sym, ap, _∙_}
 use mathlib.Core.List.{List}
 use native.Mathlib.Omega.{arith}
@@ -7,7 +7,7 @@ use native.Mathlib.Nat.{add-sub-cancel-left}
 use lib.ListN.{length, take, set}
 use lib.Seq.{getD-take, set-getD}
 use Rattle.card.specs.Answers as card
-use Rattle.card.specs.Bytes.{byte, part, splice}
+use Rattle.card.specs.Bytes.{byte, splice}
 use Rattle.card.specs.Layout.{index, file, fileEntry, fileAt, start, head}
 use Rattle.card.specs.Play.{opened, headed, filled, marks, writes}
 use Rattle.card.specs.declared.Entry.{Entry}
@@ -84,6 +84,7 @@ module _ {l : List ℕ} {s : Session} {f : ℕ} {p : Place} (h : Here l s f p) w
         ∙ ap (λ (i : ℕ). set x i (byte l at)) (sym at-is)
         ∙ ap (λ (y : List ℕ). set y (p .at + k) (byte l at)) (sym (spliced-is b))
 
+  -- the file's bytes and its top, in an image that is known by an equation
   wrote : (command : Rights → Entry → List ℕ → card.Written) {t : Reply} {b image : List ℕ} {top : ℕ}
       → given.Writes (command (p .rights) (p .entry) (lent h)) t b top
       → image ≡ set (splice l (p .start) (span h) b) (p .at + 12) top

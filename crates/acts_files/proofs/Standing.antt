@@ -1,10 +1,9 @@
 -- Where the current file stands: laws of what is read of it.
 use Prim.Native.Nat.{ℕ, _+_, _*_, _≤_, _<_}
-use mathlib.Core.Path.{_≡_, sym, ap, _∙_}
+use mathlib.Core.Path.{_≡_, refl, sym, ap, _∙_}
 use mathlib.Core.List.{List}
 use mathlib.Core.Bool.{Bool, true, _&&_}
 use native.Mathlib.Omega.{arith}
-use native.Mathlib.Nat.{add-zero, add-assoc}
 use native.Mathlib.Numerals.{add-one}
 use lib.Dec.{eqb, ltb}
 use lib.ListN.{length}
@@ -12,7 +11,7 @@ use borrow.Author.Tests.{ltb-true}
 use Rattle.card.specs.Access.{rights}
 use Rattle.card.specs.Bytes.{word}
 use Rattle.card.specs.Images.{Image}
-use Rattle.card.specs.Layout.{index, code, file, fileEntry, fileAt, start, sizes, head}
+use Rattle.card.specs.Layout.{index, file, fileEntry, fileAt, start, sizes, head}
 use Rattle.card.specs.Sessions.{fits, stands, pointed, padded}
 use Rattle.card.specs.declared.Current.{Current}
 use Rattle.card.specs.declared.Current.the-variants.{File}
@@ -27,18 +26,19 @@ use Rattle.card.proofs.Tests.{both}
 use Rattle.acts.specs.Ready.{Ready}
 use Rattle.acts_files.specs.Here.{Here, place}
 
--- the starts of the files, one after the other
+-- the sizes of the files, summed one after the other
+pub no-sizes : (l : List ℕ) → 0 ≡ sizes l 0
+unfolding sizes
+no-sizes l = refl
+
 module _ (l : List ℕ) (i : Index) (is : i ≡ index l) where
-  pub first-start : i .store ≡ start l 0
-  unfolding start sizes
-  first-start = simp (is, add-zero)
+  pub next-size : (g sum size : ℕ) → sum ≡ sizes l g → size ≡ word l (i .table + 14 * g + 10) → sum + size ≡ sizes l (g + 1)
+  unfolding sizes file fileEntry
+  next-size g sum size p q = simp (add-one, p, q, is)
 
-  pub next-start : (g at size : ℕ) → at ≡ start l g → size ≡ word l (i .table + 14 * g + 10) → at + size ≡ start l (g + 1)
-  unfolding start sizes file fileEntry
-  next-start g at size p q = simp (add-one, p, q, is, add-assoc)
-
-pub last-start : (l : List ℕ) (f g at : ℕ) → g ≤ f → f ≤ g → at ≡ start l g → at ≡ start l f
-last-start l f g at a b e = let same : g ≡ f = omega arith in e ∙ ap (start l) same
+  pub all-sizes : (f g sum : ℕ) → g ≤ f → f ≤ g → sum ≡ sizes l g → i .store + sum ≡ start l f
+  unfolding start
+  all-sizes f g sum a b e = let same : g ≡ f = omega arith in rw (is, e, same)
 
 -- the head has the whole's rights
 rights-head : (l : List ℕ) → Image l → (s : Session) → rights (head l) s ≡ rights l s

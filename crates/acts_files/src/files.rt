@@ -1,5 +1,6 @@
 // The commands that read or write the current file's bytes: its entry is read once, and its bytes are passed on as a part of the image.
 // Without a current file each answers 94 00.
+use crate::stand::TOP;
 use crate::stand::stand;
 use card::Current;
 use card::Session;
@@ -119,7 +120,7 @@ pub fn update_record(image: &mut [u8], s: Session, number: usize, mode: usize, n
         mode,
         new,
     );
-    let top = p.at + 12;
+    let top = p.at + TOP;
     image[top] = w.top;
     w.reply
 }
@@ -138,7 +139,7 @@ pub fn increase_by(image: &mut [u8], s: Session, added: &[u8]) -> Reply
     let start = p.start;
     let end = p.end;
     let w = increase::increase_by(p.rights, p.entry, &mut image[start..end], s, added);
-    let top = p.at + 12;
+    let top = p.at + TOP;
     image[top] = w.top;
     w.reply
 }

@@ -1,4 +1,5 @@
 // The commands that write the current file's mark. Without a current file each answers 94 00.
+use crate::stand::STATUS;
 use crate::stand::stand;
 use card::Current;
 use card::Session;
@@ -19,10 +20,10 @@ pub fn invalidate(image: &mut [u8], s: Session) -> Reply
         return refusal(s, 0x9400);
     };
     let p = stand(image, s, f);
-    let m = marks::invalidate(p.rights, p.entry, s);
-    let status = p.at + 9;
-    image[status] = m.status;
-    m.reply
+    let marked = marks::invalidate(p.rights, p.entry, s);
+    let status = p.at + STATUS;
+    image[status] = marked.status;
+    marked.reply
 }
 
 // The mark says valid again. Only this player's crates call it.
@@ -35,8 +36,8 @@ pub fn rehabilitate(image: &mut [u8], s: Session) -> Reply
         return refusal(s, 0x9400);
     };
     let p = stand(image, s, f);
-    let m = marks::rehabilitate(p.rights, p.entry, s);
-    let status = p.at + 9;
-    image[status] = m.status;
-    m.reply
+    let cleared = marks::rehabilitate(p.rights, p.entry, s);
+    let status = p.at + STATUS;
+    image[status] = cleared.status;
+    cleared.reply
 }

@@ -23,6 +23,12 @@ pub struct Place {
     pub end: usize,
 }
 
+// Where the status stands in a file's entry.
+pub const STATUS: usize = 9;
+
+// Where the top stands.
+pub const TOP: usize = 12;
+
 // Which of levels 1 and 2 the codes and the session fulfil.
 fn rights(l: &[u8], s: Session) -> Rights
     ensures { λ r. ⌜ r ≡ rights (now (l .entry)) s ⌝ }
@@ -42,13 +48,13 @@ fn start(l: &[u8], i: Index, f: usize) -> usize
     ensures { λ r. ⌜ r ≡ start (now (l .entry)) f ⌝ }
 {
     let table = i.table;
-    let mut at = i.store;
+    let mut sum: usize = 0;
     let mut g = 0;
     while g < f {
-        at += wide_word(read::word_at(l, table + 14 * g + 10));
+        sum += wide_word(read::word_at(l, table + 14 * g + 10));
         g += 1;
     }
-    at
+    i.store + sum
 }
 
 // The current file. Only this player's crates call it.
