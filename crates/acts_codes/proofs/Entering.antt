@@ -65,10 +65,11 @@ before : (l : List ℕ) → Image l → (c : ℕ) → c < 2 → codeAt c + 20 �
 unfolding index
 before l m c h = omega (arith, m .codes)
 
-module _ {l : List ℕ} {s : Session} (r : Ready l s) (c : ℕ) (h : c < 2) where
-  pub inside : 2 + 20 * c + 20 ≤ length l
-  inside = omega (arith, before l (image l (r .image)) c h, store-inside l (image l (r .image)))
+-- both entries end inside the image
+pub inside : {l : List ℕ} {s : Session} → Ready l s → 42 ≤ length l
+inside {l} r = let m = image l (r .image) in omega (arith, before l m 1 (omega arith), store-inside l m)
 
+module _ {l : List ℕ} {s : Session} (r : Ready l s) (c : ℕ) (h : c < 2) where
   -- any command: it saw the head's entry, and what it left there is in its place
   sees : part (head l) (codeAt c) 20 ≡ part l (codeAt c) 20
   unfolding head
@@ -91,7 +92,7 @@ module _ {l : List ℕ} {s : Session} (r : Ready l s) (c : ℕ) (h : c < 2) wher
       record {
         reply = g′ .reply;
         image′ =
-            leaves new (k ∙ length-part l (codeAt c) 20 inside)
+            leaves new (k ∙ length-part l (codeAt c) 20 (omega (arith, inside r)))
             ∙ ap (λ (e : List ℕ). headed l (splice (head l) (codeAt c) 20 e)) (g′ .entry)
             ∙ ap (λ (x : List ℕ). headed x (splice (head l) (codeAt c) 20 (d .entry))) (sym (unfilled l (s .current)));
         room = rw (g′ .silent);
@@ -107,6 +108,8 @@ module _ {l : List ℕ} {s : Session} (r : Ready l s) (c : ℕ) (h : c < 2) wher
   coded command t new =
       let e : 20 ≡ span = omega arith in
       subst
-      (λ (n : ℕ). length new ≡ length (part l (codeAt c) n) → given.Codes (command (part l (codeAt c) n) c) t new → Codes command l s c t (splice l (codeAt c) n new))
+      (λ (n : ℕ). length new ≡ length (part l (codeAt c) n)
+      → given.Codes (command (part l (codeAt c) n) c) t new
+      → Codes command l s c t (splice l (codeAt c) n new))
       e
       (by20 command t new)

@@ -10,14 +10,19 @@ ghost use Rattle.card.specs.Codes.{verify, change, disable, enable, unblock};
 ghost use Rattle.acts.specs.Leaves.{Codes};
 ghost use Rattle.acts.specs.Ready.{Ready};
 
+// Where the codes' entries start, and how long each of them is.
+const CODES: usize = 2;
+
+const ENTRY: usize = 20;
+
 // VERIFY of code c, 0 for CHV1 and 1 for CHV2. Only this player's crates call it, after the tests of the image and the session.
 pub fn verify(image: &mut [u8], s: Session, c: usize, given: &[u8]) -> Reply
     requires { ⌜ Ready (now image) s ⌝ }
     requires { ⌜ (c < 2) × (length (now given) ≡ 8) ⌝ }
     ensures { λ t. ⌜ Codes (λ e c. verify e s c (now (given .entry))) (now (image .entry)) s c t (now (image .exit)) ⌝ }
 {
-    let at = 2 + 20 * c;
-    let end = at + 20;
+    let at = CODES + ENTRY * c;
+    let end = at + ENTRY;
     codes::verify(&mut image[at..end], s, c, given)
 }
 
@@ -27,8 +32,8 @@ pub fn change(image: &mut [u8], s: Session, c: usize, given: &[u8]) -> Reply
     requires { ⌜ (c < 2) × (length (now given) ≡ 16) ⌝ }
     ensures { λ t. ⌜ Codes (λ e c. change e s c (now (given .entry))) (now (image .entry)) s c t (now (image .exit)) ⌝ }
 {
-    let at = 2 + 20 * c;
-    let end = at + 20;
+    let at = CODES + ENTRY * c;
+    let end = at + ENTRY;
     codes::change(&mut image[at..end], s, c, given)
 }
 
@@ -38,8 +43,8 @@ pub fn disable(image: &mut [u8], s: Session, given: &[u8]) -> Reply
     requires { ⌜ length (now given) ≡ 8 ⌝ }
     ensures { λ t. ⌜ Codes (λ e c. disable e s c (now (given .entry))) (now (image .entry)) s 0 t (now (image .exit)) ⌝ }
 {
-    let at = 2;
-    let end = at + 20;
+    let at = CODES;
+    let end = at + ENTRY;
     codes::disable(&mut image[at..end], s, 0, given)
 }
 
@@ -49,8 +54,8 @@ pub fn enable(image: &mut [u8], s: Session, given: &[u8]) -> Reply
     requires { ⌜ length (now given) ≡ 8 ⌝ }
     ensures { λ t. ⌜ Codes (λ e c. enable e s c (now (given .entry))) (now (image .entry)) s 0 t (now (image .exit)) ⌝ }
 {
-    let at = 2;
-    let end = at + 20;
+    let at = CODES;
+    let end = at + ENTRY;
     codes::enable(&mut image[at..end], s, 0, given)
 }
 
@@ -60,7 +65,7 @@ pub fn unblock(image: &mut [u8], s: Session, c: usize, given: &[u8]) -> Reply
     requires { ⌜ (c < 2) × (length (now given) ≡ 16) ⌝ }
     ensures { λ t. ⌜ Codes (λ e c. unblock e s c (now (given .entry))) (now (image .entry)) s c t (now (image .exit)) ⌝ }
 {
-    let at = 2 + 20 * c;
-    let end = at + 20;
+    let at = CODES + ENTRY * c;
+    let end = at + ENTRY;
     codes::unblock(&mut image[at..end], s, c, given)
 }

@@ -1,4 +1,5 @@
 -- `acts_codes::change` meets its contract: the entry was lent as a part and came back.
+use native.Mathlib.Omega.{arith}
 use denote.Ref.{now}
 use Rattle.card.specs.Codes.{change}
 use Rattle.acts_codes.proofs.Entering.{inside, coded}
@@ -22,8 +23,7 @@ part-change-start : tie.Need-part-change-start
 part-change-start c = search needs
 
 part-change-end : tie.Need-part-change-end
-part-change-end c =
-    inside (c .before .before .pre .0) (c .before .before .args .c) (c .before .before .pre .1 .0)
+part-change-end c = omega (arith, inside (c .before .before .pre .0))
 
 change-requires : tie.Need-change-requires
 change-requires c κs = search needs
@@ -33,8 +33,10 @@ same-length c = search needs
 
 returns : tie.Need-returns
 returns c =
-    let a = c .before .before .before .before .before .before .args in
-    coded (c .before .before .before .before .before .before .pre .0) (a .c) (c .before .before .before .before .before .before .pre .1 .0) (λ e c. change e (a .s) c (now (a .given))) _ _ (c .before .before .change .kept .0) (c .before .before .change .ensures)
+    let e = c .before .before .before .before .before .before in
+    coded (e .pre .0) (e .args .c) (e .pre .1 .0) (λ k c. change k (e .args .s) c (now (e .args .given))) _ _
+    (c .before .before .change .kept .0)
+    (c .before .before .change .ensures)
 
 pub change-spec : {M : Type 1} → statement M
 change-spec =

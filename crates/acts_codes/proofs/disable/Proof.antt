@@ -17,8 +17,7 @@ part-disable-start : tie.Need-part-disable-start
 part-disable-start c = search needs
 
 part-disable-end : tie.Need-part-disable-end
-part-disable-end c =
-    inside (c .before .before .pre .0) 0 (omega arith)
+part-disable-end c = omega (arith, inside (c .before .before .pre .0))
 
 disable-requires : tie.Need-disable-requires
 disable-requires c κs = search needs
@@ -28,8 +27,10 @@ same-length c = search needs
 
 returns : tie.Need-returns
 returns c =
-    let a = c .before .before .before .before .before .before .args in
-    coded (c .before .before .before .before .before .before .pre .0) 0 (omega arith) (λ e c. disable e (a .s) c (now (a .given))) _ _ (c .before .before .disable .kept .0) (c .before .before .disable .ensures)
+    let e = c .before .before .before .before .before .before in
+    coded (e .pre .0) 0 (omega arith) (λ k c. disable k (e .args .s) c (now (e .args .given))) _ _
+    (c .before .before .disable .kept .0)
+    (c .before .before .disable .ensures)
 
 pub disable-spec : {M : Type 1} → statement M
 disable-spec =

@@ -17,8 +17,7 @@ part-enable-start : tie.Need-part-enable-start
 part-enable-start c = search needs
 
 part-enable-end : tie.Need-part-enable-end
-part-enable-end c =
-    inside (c .before .before .pre .0) 0 (omega arith)
+part-enable-end c = omega (arith, inside (c .before .before .pre .0))
 
 enable-requires : tie.Need-enable-requires
 enable-requires c κs = search needs
@@ -28,8 +27,10 @@ same-length c = search needs
 
 returns : tie.Need-returns
 returns c =
-    let a = c .before .before .before .before .before .before .args in
-    coded (c .before .before .before .before .before .before .pre .0) 0 (omega arith) (λ e c. enable e (a .s) c (now (a .given))) _ _ (c .before .before .enable .kept .0) (c .before .before .enable .ensures)
+    let e = c .before .before .before .before .before .before in
+    coded (e .pre .0) 0 (omega arith) (λ k c. enable k (e .args .s) c (now (e .args .given))) _ _
+    (c .before .before .enable .kept .0)
+    (c .before .before .enable .ensures)
 
 pub enable-spec : {M : Type 1} → statement M
 enable-spec =

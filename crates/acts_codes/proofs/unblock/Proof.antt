@@ -1,4 +1,5 @@
 -- `acts_codes::unblock` meets its contract: the entry was lent as a part and came back.
+use native.Mathlib.Omega.{arith}
 use denote.Ref.{now}
 use Rattle.card.specs.Codes.{unblock}
 use Rattle.acts_codes.proofs.Entering.{inside, coded}
@@ -22,8 +23,7 @@ part-unblock-start : tie.Need-part-unblock-start
 part-unblock-start c = search needs
 
 part-unblock-end : tie.Need-part-unblock-end
-part-unblock-end c =
-    inside (c .before .before .pre .0) (c .before .before .args .c) (c .before .before .pre .1 .0)
+part-unblock-end c = omega (arith, inside (c .before .before .pre .0))
 
 unblock-requires : tie.Need-unblock-requires
 unblock-requires c κs = search needs
@@ -33,8 +33,10 @@ same-length c = search needs
 
 returns : tie.Need-returns
 returns c =
-    let a = c .before .before .before .before .before .before .args in
-    coded (c .before .before .before .before .before .before .pre .0) (a .c) (c .before .before .before .before .before .before .pre .1 .0) (λ e c. unblock e (a .s) c (now (a .given))) _ _ (c .before .before .unblock .kept .0) (c .before .before .unblock .ensures)
+    let e = c .before .before .before .before .before .before in
+    coded (e .pre .0) (e .args .c) (e .pre .1 .0) (λ k c. unblock k (e .args .s) c (now (e .args .given))) _ _
+    (c .before .before .unblock .kept .0)
+    (c .before .before .unblock .ensures)
 
 pub unblock-spec : {M : Type 1} → statement M
 unblock-spec =

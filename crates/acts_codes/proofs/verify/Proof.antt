@@ -1,4 +1,5 @@
 -- `acts_codes::verify` meets its contract: the entry was lent as a part and came back.
+use native.Mathlib.Omega.{arith}
 use denote.Ref.{now}
 use Rattle.card.specs.Codes.{verify}
 use Rattle.acts_codes.proofs.Entering.{inside, coded}
@@ -22,8 +23,7 @@ part-verify-start : tie.Need-part-verify-start
 part-verify-start c = search needs
 
 part-verify-end : tie.Need-part-verify-end
-part-verify-end c =
-    inside (c .before .before .pre .0) (c .before .before .args .c) (c .before .before .pre .1 .0)
+part-verify-end c = omega (arith, inside (c .before .before .pre .0))
 
 verify-requires : tie.Need-verify-requires
 verify-requires c κs = search needs
@@ -33,8 +33,10 @@ same-length c = search needs
 
 returns : tie.Need-returns
 returns c =
-    let a = c .before .before .before .before .before .before .args in
-    coded (c .before .before .before .before .before .before .pre .0) (a .c) (c .before .before .before .before .before .before .pre .1 .0) (λ e c. verify e (a .s) c (now (a .given))) _ _ (c .before .before .verify .kept .0) (c .before .before .verify .ensures)
+    let e = c .before .before .before .before .before .before in
+    coded (e .pre .0) (e .args .c) (e .pre .1 .0) (λ k c. verify k (e .args .s) c (now (e .args .given))) _ _
+    (c .before .before .verify .kept .0)
+    (c .before .before .verify .ensures)
 
 pub verify-spec : {M : Type 1} → statement M
 verify-spec =

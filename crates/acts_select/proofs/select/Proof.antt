@@ -21,22 +21,30 @@ find-directory-requires c κs =
 
 directory-response-requires : tie.Need-directory-response-requires
 directory-response-requires c κs =
-    (heading (c .before .before .before .before .before .before .pre) _ (c .before .before .before .before .index .ensures .is), c .if1 .taken)
+    let d = c .before .before .before .before in
+    (heading (d .before .before .pre) _ (d .index .ensures .is), omega arith)
 
 select-directory-requires : tie.Need-select-directory-requires
 select-directory-requires c κs = search needs
 
 returns : tie.Need-returns
 returns c =
-    toDirectory (c .before .before .before .before .before .before .before .before .pre) _ (c .before .before .before .before .before .before .index .ensures .is) _ _ _ _ (c .before .before .before .before .find-directory .ensures) (c .before .before .if1 .taken) (c .before .directory-response .ensures) (c .select-directory .ensures)
+    let e = c .before .before .before .before .before .before .before .before in
+    toDirectory (e .pre) _ (c .before .before .before .before .before .before .index .ensures .is) _ _ _ _
+    (c .before .before .before .before .find-directory .ensures)
+    (c .before .before .if1 .taken)
+    (c .before .directory-response .ensures)
+    (c .select-directory .ensures)
 
 find-file-requires : tie.Need-find-file-requires
 find-file-requires c κs =
-    heading (c .before .before .before .before .before .before .pre) _ (c .before .before .before .before .index .ensures .is) .indexed
+    let d = c .before .before .before .before in
+    heading (d .before .before .pre) _ (d .index .ensures .is) .indexed
 
 file-requires : tie.Need-file-requires
 file-requires c κs =
-    let h = heading (c .before .before .before .before .before .before .before .before .before .pre) _ (c .before .before .before .before .before .before .before .index .ensures .is) in
+    let d = c .before .before .before .before .before .before .before in
+    let h = heading (d .before .before .pre) _ (d .index .ensures .is) in
     (h .indexed, omega (arith, c .if2 .taken, h .files))
 
 file-response-requires : tie.Need-file-response-requires
@@ -47,14 +55,30 @@ select-file-requires c κs = search needs
 
 returns-2 : tie.Need-returns-2
 returns-2 c =
-    toFile (c .before .before .before .before .before .before .before .before .before .before .before .before .pre) _ (c .before .before .before .before .before .before .before .before .before .before .index .ensures .is) _ _ _ _ _ _ (c .before .before .before .before .before .before .before .before .find-directory .ensures) (c .before .before .before .before .before .before .if1 .left) (c .before .before .before .before .before .find-file .ensures) (c .before .before .before .if2 .taken) (c .before .before .file .ensures) (c .before .file-response .ensures) (c .select-file .ensures)
+    let e = c .before .before .before .before .before .before .before .before .before .before .before .before in
+    let d = c .before .before .before .before .before .before in
+    toFile (e .pre) _ (d .before .before .before .before .index .ensures .is) _ _ _ _ _ _
+    (d .before .before .find-directory .ensures)
+    (d .if1 .left)
+    (c .before .before .before .before .before .find-file .ensures)
+    (c .before .before .before .if2 .taken)
+    (c .before .before .file .ensures)
+    (c .before .file-response .ensures)
+    (c .select-file .ensures)
 
 select-nothing-requires : tie.Need-select-nothing-requires
 select-nothing-requires c κs = search needs
 
 returns-3 : tie.Need-returns-3
 returns-3 c =
-    toNothing (c .before .before .before .before .before .before .before .before .before .before .pre) _ (c .before .before .before .before .before .before .before .before .index .ensures .is) _ _ _ _ (c .before .before .before .before .before .before .find-directory .ensures) (c .before .before .before .before .if1 .left) (c .before .before .before .find-file .ensures) (c .before .if2 .left) (c .select-nothing .ensures)
+    let e = c .before .before .before .before .before .before .before .before .before .before in
+    let d = c .before .before .before .before in
+    toNothing (e .pre) _ (d .before .before .before .before .index .ensures .is) _ _ _ _
+    (d .before .before .find-directory .ensures)
+    (d .if1 .left)
+    (c .before .before .before .find-file .ensures)
+    (c .before .if2 .left)
+    (c .select-nothing .ensures)
 
 pub select-spec : {M : Type 1} → statement M
 select-spec =

@@ -1,4 +1,5 @@
 -- `acts_select::status` meets its contract: the head that was lent is the image's.
+use native.Mathlib.Omega.{arith}
 use denote.Ref.{now}
 use Rattle.shelf.proofs.Heading.{head-length}
 use Rattle.acts_select.proofs.Finding.{heading, here, status}
@@ -15,7 +16,8 @@ slice-aggregate-directory-response c =
 
 directory-response-requires : tie.Need-directory-response-requires
 directory-response-requires c κs =
-    (heading (c .before .before .before .before .pre .0) _ (c .before .index .ensures .is), here (c .before .before .before .before .pre .0) _ (c .before .index .ensures .is))
+    let e = c .before .before .before .before in
+    (heading (e .pre .0) _ (c .before .index .ensures .is), omega (arith, here (e .pre .0) _ (c .before .index .ensures .is)))
 
 tell-status-requires : tie.Need-tell-status-requires
 tell-status-requires c κs = search needs
@@ -25,7 +27,10 @@ same-length c = search needs
 
 returns : tie.Need-returns
 returns c =
-    status (c .before .before .before .before .before .before .before .before .before .pre .0) _ (c .before .before .before .before .before .before .index .ensures .is) _ _ _ _ _ (c .before .before .before .before .directory-response .ensures) (c .before .before .tell-status .ensures)
+    let e = c .before .before .before .before .before .before .before .before .before in
+    status (e .pre .0) _ (c .before .before .before .before .before .before .index .ensures .is) _ _ _ _ _
+    (c .before .before .before .before .directory-response .ensures)
+    (c .before .before .tell-status .ensures)
 
 pub status-spec : {M : Type 1} → statement M
 status-spec =
