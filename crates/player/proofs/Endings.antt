@@ -1,13 +1,13 @@
 -- Laws of a command's end: the response in the room, and the ways out of `perform` and `play`.
-use Prim.Native.Nat.{ℕ, _+_, _-_, _/_, _%_, _≤_, _<_}
-use mathlib.Core.Path.{_≡_, refl, sym, ap, _∙_}
-use mathlib.Core.List.{List, [], _∷_, _++_}
+use Prim.Native.Nat.{ℕ, _+_, _-_, _/_, _%_, _≤_}
+use mathlib.Core.Path.{_≡_, refl, ap, _∙_}
+use mathlib.Core.List.{List, [], _++_}
 use native.Mathlib.Omega.{arith}
-use lib.ListN.{length, take, drop, set, length-append, length-drop}
+use lib.ListN.{length, take, drop, length-append, length-drop}
 use lib.Seq.{take-all}
 use Rattle.card.specs.Answers as card
 use Rattle.card.specs.Answers.{laid}
-use Rattle.card.specs.Play.{Outcome, act, told, done, afterwards, declined}
+use Rattle.card.specs.Play.{act, told, done, afterwards, declined}
 use Rattle.card.specs.declared.Answer.{Answer}
 use Rattle.card.specs.declared.Instruction.{Instruction}
 use Rattle.card.specs.declared.Session.{Session}

@@ -6,8 +6,6 @@ use lib.Dec.{eqb}
 use Rattle.card.specs.Answers.{number}
 use Rattle.card.specs.declared.Answer.{Answer}
 use Rattle.card.specs.declared.Answer.the-variants.{Played as Done, NotAnImage, DoesNotFit, RoomTooSmall, WrongLength}
-use Rattle.card.specs.declared.Session.{Session}
-use Rattle.player.specs.declared.Lent.{Lent}
 use Rattle.player.specs.declared.Played.{Played}
 use Rattle.player.specs.OneOutcome.{OneOutcome, OneLent}
 

@@ -12,14 +12,12 @@ use forms::formed;
 use forms::instruction_of;
 use forms::sent;
 ghost use mathlib.Core.Path.{_≡_};
-ghost use mathlib.Core.List.{[]};
 ghost use Prim.Native.Nat.{_+_, _≤_};
 ghost use lib.ListN.{length, drop};
 ghost use Rattle.acts.specs.Ready.{Ready};
-ghost use Rattle.card.specs.Answers.{number};
 ghost use Rattle.card.specs.Bytes.{byte};
 ghost use Rattle.card.specs.Layout.{head};
-ghost use Rattle.card.specs.Play.{act, opened, done, declined, performAs, perform};
+ghost use Rattle.card.specs.Play.{act, opened, done, performAs, perform};
 ghost use Rattle.player.specs.Ends.{Tells, Ends};
 ghost use Rattle.acting.specs.Right.{Right};
 
