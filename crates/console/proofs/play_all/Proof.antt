@@ -10,7 +10,6 @@ use Rattle.console.proofs.play_all.Tie as tie
 use Rattle.console.proofs.play_all.Reads as reads
 use Rattle.console.proofs.play_all.Lts as lts
 use Rattle.console.proofs.play_one.Reads as play-one-reads
-use Rattle.console.proofs.reset.Reads as reset-reads
 use Rattle.runs.proofs.tested.Reads as tested-reads
 
 abbrev Inv-loop : tie.InvT-loop
