@@ -1,4 +1,5 @@
-// The commands by value: on an entry, a file's bytes, a code's bytes and a session. Each is the definition's function of its name.
+// What the commands by value share: access, refusals and replies, parts of slices, and the changes of a session. Only this player's crates
+// call these.
 pub mod access;
 pub mod answers;
 pub mod parts;
