@@ -4,5 +4,6 @@ pub mod Entries
 pub mod Frames
 pub mod Images
 pub mod Heads
+pub mod Places
 pub mod Refusals
 pub mod Blind
