@@ -1,4 +1,5 @@
 pub mod Past
+pub mod Whole
 pub mod Loops
 pub mod Heading
 pub mod Told
