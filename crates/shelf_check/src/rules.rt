@@ -1,6 +1,6 @@
 // The rules of one entry.
 ghost use mathlib.Core.Path.{_≡_};
-ghost use Prim.Native.Nat.{_<_, _/_};
+ghost use Prim.Native.Nat.{_<_, _/_, _%_};
 ghost use Rattle.card.specs.Layout.{directory, records};
 ghost use Rattle.card.specs.Shelf.{all, codeRules, below, within, recordsRule, topRule};
 ghost use Rattle.shelf.specs.Reads.{Indexed};
@@ -73,11 +73,24 @@ pub fn directory_key(d: usize, e: Directory) -> usize
     }
 }
 
+// How many times a part goes into a whole, and what is left; 0 goes into nothing.
+fn quotient(whole: usize, part: usize) -> usize
+    ensures { λ r. ⌜ r ≡ whole / part ⌝ }
+{
+    if part == 0 { 0 } else { whole / part }
+}
+
+fn remainder(whole: usize, part: usize) -> usize
+    ensures { λ r. ⌜ r ≡ whole % part ⌝ }
+{
+    if part == 0 { whole } else { whole % part }
+}
+
 // How many records a file has.
 pub fn records(e: Entry) -> usize
     ensures { λ r. ⌜ r ≡ records e ⌝ }
 {
-    read::quotient(e.size as usize, e.width as usize)
+    quotient(e.size as usize, e.width as usize)
 }
 
 // Top is below the number of records on a cyclic file, and 0 elsewhere.
@@ -98,7 +111,7 @@ pub fn size_rule(e: Entry) -> bool
     let size = e.size as usize;
     let width = e.width as usize;
     let n = records(e);
-    (0 < e.width) & (read::remainder(size, width) == 0) & (0 < n) & (n < 255)
+    (0 < e.width) & (remainder(size, width) == 0) & (0 < n) & (n < 255)
 }
 
 // A file, whose entry is e, but for twins.
