@@ -1,3 +1,4 @@
+pub mod Whole
 pub mod Words
 pub mod Keys
 pub mod OneEntry

@@ -91,13 +91,13 @@ module _ (l : List ℕ) (i : Index) (is : i ≡ index l) where
   few h = rw (← is) h
 
   -- an entry that was read at its place, which lies inside
-  pub directory-at : (d : ℕ) (e : Directory) → e ≡ directoryEntry l (i .tree + 8 * d) → e ≡ directory l d
+  pub directory-read : (d : ℕ) (e : Directory) → e ≡ directoryEntry l (i .tree + 8 * d) → e ≡ directory l d
   unfolding directory
-  directory-at d e h = h ∙ ap (λ (x : Index). directoryEntry l (x .tree + 8 * d)) is
+  directory-read d e h = h ∙ ap (λ (x : Index). directoryEntry l (x .tree + 8 * d)) is
 
-  pub file-at : (f : ℕ) (e : Entry) → e ≡ fileEntry l (i .table + 14 * f) → e ≡ file l f
+  pub file-read : (f : ℕ) (e : Entry) → e ≡ fileEntry l (i .table + 14 * f) → e ≡ file l f
   unfolding file
-  file-at f e h = h ∙ ap (λ (x : Index). fileEntry l (x .table + 14 * f)) is
+  file-read f e h = h ∙ ap (λ (x : Index). fileEntry l (x .table + 14 * f)) is
 
   pub directory-inside : (d : ℕ) → d < i .directories → i .table - 2 ≤ length l → i .tree + 8 * d + 8 ≤ length l
   directory-inside = rw is (λ d lt h. let p = directory-place l d lt in omega arith)

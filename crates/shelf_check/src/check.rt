@@ -8,6 +8,7 @@ ghost use Rattle.card.specs.Layout.{directory, sizes};
 ghost use Rattle.card.specs.Shelf.{all, directoryRules, codesSound, directoriesSound, filesSound, bytesSound};
 ghost use Rattle.shelf.specs.Reads.{Indexed};
 ghost use Rattle.shelf_check.specs.Tallies.{tally};
+use crate::entries;
 use crate::marks;
 use crate::rules;
 use card::Index;
@@ -33,7 +34,7 @@ fn each_directory(image: &[u8], i: Index) -> bool
     let mut marks: [u32; 256] = [0; 256];
     let mut d = 0;
     while d < n {
-        let e = read::whole_directory(image, i.tree + 8 * d);
+        let e = entries::directory_at(image, i.tree + 8 * d);
         if !rules::directory_rules(image, i, d, e) {
             return false;
         }
@@ -73,7 +74,7 @@ fn each_file(image: &[u8], i: Index) -> Tally
     let mut sum: usize = 0;
     let mut f = 0;
     while f < n {
-        let e = read::whole_file(image, i.table + 14 * f);
+        let e = entries::file_at(image, i.table + 14 * f);
         if !rules::file_rules(image, i, e) {
             return Tally::Unsound;
         }

@@ -1,5 +1,6 @@
 // Tests an image of the shelf form, and whether a session fits it.
 mod check;
+mod entries;
 mod fit;
 mod marks;
 mod rules;

@@ -9,7 +9,7 @@ use Rattle.card.specs.Bytes.{every}
 use Rattle.shelf.proofs.Loops.{every-none, every-more, every-end, every-not}
 use Rattle.shelf_check.specs.Marks.{Holds}
 use Rattle.shelf_check.proofs.Keys.{holds-none}
-use Rattle.shelf_check.proofs.Sections.{directory-at, directory-inside}
+use Rattle.shelf_check.proofs.Sections.{directory-read, directory-inside}
 use Rattle.shelf_check.proofs.Directories.{directoryKeeps, directoryKeys, directory-fails, directory-decides, directory-small, directory-holds}
 use Rattle.shelf_check.proofs.check.each_directory.Statement.{statement}
 use Rattle.shelf_check.proofs.check.each_directory.Tie as tie
@@ -23,29 +23,29 @@ abbrev μ-loop : tie.MeasureT-loop
 loop-holds : tie.Need-loop-holds Inv-loop μ-loop
 loop-holds c = (omega arith, (every-none _, holds-none _))
 
-mul-whole-directory : tie.Need-mul-whole-directory Inv-loop μ-loop
-mul-whole-directory c = omega (arith, c .before .before .before .pre .1 .0)
+mul-directory-at : tie.Need-mul-directory-at Inv-loop μ-loop
+mul-directory-at c = omega (arith, c .before .before .before .pre .1 .0)
 
-add-whole-directory : tie.Need-add-whole-directory Inv-loop μ-loop
-add-whole-directory c = omega (arith, c .before .before .before .before .pre .1 .0, c .before .before .before .before .pre .0 .tree)
+add-directory-at : tie.Need-add-directory-at Inv-loop μ-loop
+add-directory-at c = omega (arith, c .before .before .before .before .pre .1 .0, c .before .before .before .before .pre .0 .tree)
 
-whole-directory-requires : tie.Need-whole-directory-requires Inv-loop μ-loop
-whole-directory-requires c κs = directory-inside _ _ (c .before .before .before .before .pre .0 .is) _ (c .before .loop-test .taken) (c .before .before .before .before .pre .1 .1)
+directory-at-requires : tie.Need-directory-at-requires Inv-loop μ-loop
+directory-at-requires c κs = directory-inside _ _ (c .before .before .before .before .pre .0 .is) _ (c .before .loop-test .taken) (c .before .before .before .before .pre .1 .1)
 
 directory-rules-requires : tie.Need-directory-rules-requires Inv-loop μ-loop
 directory-rules-requires c κs = c .before .before .before .before .before .pre .0
 
 returns : tie.Need-returns Inv-loop μ-loop
-returns c = every-not _ _ _ (c .before .before .before .before .loop-test .taken) (directory-fails _ _ _ _ (directory-at _ _ (c .before .before .before .before .before .before .before .pre .0 .is) _ _ (c .before .before .whole-directory .ensures)) (c .before .directory-rules .ensures) (c .if1 .taken))
+returns c = every-not _ _ _ (c .before .before .before .before .loop-test .taken) (directory-fails _ _ _ _ (directory-read _ _ (c .before .before .before .before .before .before .before .pre .0 .is) _ _ (c .before .before .directory-at .ensures)) (c .before .directory-rules .ensures) (c .if1 .taken))
 
 directory-key-requires : tie.Need-directory-key-requires Inv-loop μ-loop
 directory-key-requires c κs = search needs
 
 meet-requires : tie.Need-meet-requires Inv-loop μ-loop
-meet-requires c κs = (directory-small _ _ _ _ (directory-at _ _ (c .before .before .before .before .before .before .before .before .before .pre .0 .is) _ _ (c .before .before .before .before .whole-directory .ensures)) (c .before .before .before .directory-rules .ensures) _ (omega (arith, c .before .before .before .before .before .before .loop-test .taken, c .before .before .before .before .before .before .before .before .before .pre .1 .0)) (c .before .before .if1 .left) (c .directory-key .ensures), c .before .before .before .before .before .before .before .loop .inv .1 .1 .size)
+meet-requires c κs = (directory-small _ _ _ _ (directory-read _ _ (c .before .before .before .before .before .before .before .before .before .pre .0 .is) _ _ (c .before .before .before .before .directory-at .ensures)) (c .before .before .before .directory-rules .ensures) _ (omega (arith, c .before .before .before .before .before .before .loop-test .taken, c .before .before .before .before .before .before .before .before .before .pre .1 .0)) (c .before .before .if1 .left) (c .directory-key .ensures), c .before .before .before .before .before .before .before .loop .inv .1 .1 .size)
 
 returns-2 : tie.Need-returns-2 Inv-loop μ-loop
-returns-2 c = every-not _ _ _ (c .before .before .before .before .before .before .before .before .loop-test .taken) (directory-decides _ _ _ _ (directory-at _ _ (c .before .before .before .before .before .before .before .before .before .before .before .pre .0 .is) _ _ (c .before .before .before .before .before .before .whole-directory .ensures)) (c .before .before .before .before .before .directory-rules .ensures) _ _ (omega (arith, c .before .before .before .before .before .before .before .before .loop-test .taken, c .before .before .before .before .before .before .before .before .before .before .before .pre .1 .0)) (c .before .before .before .before .before .before .before .before .before .loop .inv .1 .0) (c .before .before .before .before .if1 .left) (c .before .before .before .before .before .before .before .before .before .loop .inv .1 .1) (c .before .before .directory-key .ensures) (c .before .meet .ensures .0) ∙ ap not (c .if2 .taken))
+returns-2 c = every-not _ _ _ (c .before .before .before .before .before .before .before .before .loop-test .taken) (directory-decides _ _ _ _ (directory-read _ _ (c .before .before .before .before .before .before .before .before .before .before .before .pre .0 .is) _ _ (c .before .before .before .before .before .before .directory-at .ensures)) (c .before .before .before .before .before .directory-rules .ensures) _ _ (omega (arith, c .before .before .before .before .before .before .before .before .loop-test .taken, c .before .before .before .before .before .before .before .before .before .before .before .pre .1 .0)) (c .before .before .before .before .before .before .before .before .before .loop .inv .1 .0) (c .before .before .before .before .if1 .left) (c .before .before .before .before .before .before .before .before .before .loop .inv .1 .1) (c .before .before .directory-key .ensures) (c .before .meet .ensures .0) ∙ ap not (c .if2 .taken))
 
 add-d : tie.Need-add-d Inv-loop μ-loop
 add-d c = omega (arith, c .before .before .before .before .before .before .before .before .loop-test .taken, c .before .before .before .before .before .before .before .before .before .before .before .pre .1 .0)
@@ -54,7 +54,7 @@ loop-less : tie.Need-loop-less Inv-loop μ-loop
 loop-less c = omega (arith, c .before .before .before .before .before .before .before .before .loop-test .taken)
 
 loop-again : tie.Need-loop-again Inv-loop μ-loop
-loop-again c = (omega (arith, c .before .before .before .before .before .before .before .before .loop-test .taken), (every-more _ _ (c .before .before .before .before .before .before .before .before .before .loop .inv .1 .0) (directory-decides _ _ _ _ (directory-at _ _ (c .before .before .before .before .before .before .before .before .before .before .before .pre .0 .is) _ _ (c .before .before .before .before .before .before .whole-directory .ensures)) (c .before .before .before .before .before .directory-rules .ensures) _ _ (omega (arith, c .before .before .before .before .before .before .before .before .loop-test .taken, c .before .before .before .before .before .before .before .before .before .before .before .pre .1 .0)) (c .before .before .before .before .before .before .before .before .before .loop .inv .1 .0) (c .before .before .before .before .if1 .left) (c .before .before .before .before .before .before .before .before .before .loop .inv .1 .1) (c .before .before .directory-key .ensures) (c .before .meet .ensures .0) ∙ ap not (c .if2 .left)), directory-holds _ _ _ _ (directory-at _ _ (c .before .before .before .before .before .before .before .before .before .before .before .pre .0 .is) _ _ (c .before .before .before .before .before .before .whole-directory .ensures)) (c .before .before .before .before .before .directory-rules .ensures) _ (c .before .before .before .before .before .before .before .before .before .loop .inv .1 .1) (c .before .before .directory-key .ensures) (c .before .meet .ensures .1)))
+loop-again c = (omega (arith, c .before .before .before .before .before .before .before .before .loop-test .taken), (every-more _ _ (c .before .before .before .before .before .before .before .before .before .loop .inv .1 .0) (directory-decides _ _ _ _ (directory-read _ _ (c .before .before .before .before .before .before .before .before .before .before .before .pre .0 .is) _ _ (c .before .before .before .before .before .before .directory-at .ensures)) (c .before .before .before .before .before .directory-rules .ensures) _ _ (omega (arith, c .before .before .before .before .before .before .before .before .loop-test .taken, c .before .before .before .before .before .before .before .before .before .before .before .pre .1 .0)) (c .before .before .before .before .before .before .before .before .before .loop .inv .1 .0) (c .before .before .before .before .if1 .left) (c .before .before .before .before .before .before .before .before .before .loop .inv .1 .1) (c .before .before .directory-key .ensures) (c .before .meet .ensures .0) ∙ ap not (c .if2 .left)), directory-holds _ _ _ _ (directory-read _ _ (c .before .before .before .before .before .before .before .before .before .before .before .pre .0 .is) _ _ (c .before .before .before .before .before .before .directory-at .ensures)) (c .before .before .before .before .before .directory-rules .ensures) _ (c .before .before .before .before .before .before .before .before .before .loop .inv .1 .1) (c .before .before .directory-key .ensures) (c .before .meet .ensures .1)))
 
 returns-3 : tie.Need-returns-3 Inv-loop μ-loop
 returns-3 c = every-end _ _ _ (c .before .loop .inv .0) (c .loop-test .left) (c .before .loop .inv .1 .0)
@@ -66,9 +66,9 @@ each-directory-spec =
     Inv-loop
     μ-loop
     loop-holds
-    mul-whole-directory
-    add-whole-directory
-    whole-directory-requires
+    mul-directory-at
+    add-directory-at
+    directory-at-requires
     directory-rules-requires
     returns
     directory-key-requires

@@ -11,7 +11,7 @@ use Rattle.card.specs.declared.Entry.{Entry}
 use Rattle.shelf.proofs.Loops.{every-none, every-more}
 use Rattle.shelf_check.specs.Marks.{Holds}
 use Rattle.shelf_check.proofs.Keys.{holds-none}
-use Rattle.shelf_check.proofs.Sections.{few, file-at, file-inside, sizes-none, sizes-more, tally-fails, tally-sum}
+use Rattle.shelf_check.proofs.Sections.{few, file-read, file-inside, sizes-none, sizes-more, tally-fails, tally-sum}
 use Rattle.shelf_check.proofs.Files.{fileKeeps, fileKeys, file-fails, file-decides, file-small, file-holds}
 use Rattle.shelf_check.proofs.check.each_file.Statement.{statement}
 use Rattle.shelf_check.proofs.check.each_file.Tie as tie
@@ -25,29 +25,29 @@ abbrev μ-loop : tie.MeasureT-loop
 loop-holds : tie.Need-loop-holds Inv-loop μ-loop
 loop-holds c = (omega arith, (every-none _, (holds-none _, (omega arith, sizes-none _))))
 
-mul-whole-file : tie.Need-mul-whole-file Inv-loop μ-loop
-mul-whole-file c = omega (arith, c .before .before .before .pre .0 .files)
+mul-file-at : tie.Need-mul-file-at Inv-loop μ-loop
+mul-file-at c = omega (arith, c .before .before .before .pre .0 .files)
 
-add-whole-file : tie.Need-add-whole-file Inv-loop μ-loop
-add-whole-file c = omega (arith, c .before .before .before .before .pre .0 .files, c .before .before .before .before .pre .0 .table)
+add-file-at : tie.Need-add-file-at Inv-loop μ-loop
+add-file-at c = omega (arith, c .before .before .before .before .pre .0 .files, c .before .before .before .before .pre .0 .table)
 
-whole-file-requires : tie.Need-whole-file-requires Inv-loop μ-loop
-whole-file-requires c κs = file-inside _ _ (c .before .before .before .before .pre .0 .is) _ (c .before .loop-test .taken) (c .before .before .before .before .pre .1 .1)
+file-at-requires : tie.Need-file-at-requires Inv-loop μ-loop
+file-at-requires c κs = file-inside _ _ (c .before .before .before .before .pre .0 .is) _ (c .before .loop-test .taken) (c .before .before .before .before .pre .1 .1)
 
 file-rules-requires : tie.Need-file-rules-requires Inv-loop μ-loop
 file-rules-requires c κs = c .before .before .before .before .before .pre .0
 
 returns : tie.Need-returns Inv-loop μ-loop
-returns c = tally-fails _ _ _ (c .before .before .before .before .loop-test .taken) (file-fails _ (few _ _ (c .before .before .before .before .before .before .before .pre .0 .is) (c .before .before .before .before .before .before .before .pre .1 .0)) _ _ _ (file-at _ _ (c .before .before .before .before .before .before .before .pre .0 .is) _ _ (c .before .before .whole-file .ensures)) (c .before .file-rules .ensures) (c .if1 .taken))
+returns c = tally-fails _ _ _ (c .before .before .before .before .loop-test .taken) (file-fails _ (few _ _ (c .before .before .before .before .before .before .before .pre .0 .is) (c .before .before .before .before .before .before .before .pre .1 .0)) _ _ _ (file-read _ _ (c .before .before .before .before .before .before .before .pre .0 .is) _ _ (c .before .before .file-at .ensures)) (c .before .file-rules .ensures) (c .if1 .taken))
 
 file-key-requires : tie.Need-file-key-requires Inv-loop μ-loop
 file-key-requires c κs = search needs
 
 meet-requires : tie.Need-meet-requires Inv-loop μ-loop
-meet-requires c κs = (file-small _ (few _ _ (c .before .before .before .before .before .before .before .before .before .pre .0 .is) (c .before .before .before .before .before .before .before .before .before .pre .1 .0)) _ _ _ (file-at _ _ (c .before .before .before .before .before .before .before .before .before .pre .0 .is) _ _ (c .before .before .before .before .whole-file .ensures)) (c .before .before .before .file-rules .ensures) _ (c .before .before .if1 .left) (c .file-key .ensures), c .before .before .before .before .before .before .before .loop .inv .1 .1 .0 .size)
+meet-requires c κs = (file-small _ (few _ _ (c .before .before .before .before .before .before .before .before .before .pre .0 .is) (c .before .before .before .before .before .before .before .before .before .pre .1 .0)) _ _ _ (file-read _ _ (c .before .before .before .before .before .before .before .before .before .pre .0 .is) _ _ (c .before .before .before .before .file-at .ensures)) (c .before .before .before .file-rules .ensures) _ (c .before .before .if1 .left) (c .file-key .ensures), c .before .before .before .before .before .before .before .loop .inv .1 .1 .0 .size)
 
 returns-2 : tie.Need-returns-2 Inv-loop μ-loop
-returns-2 c = tally-fails _ _ _ (c .before .before .before .before .before .before .before .before .loop-test .taken) (file-decides _ (few _ _ (c .before .before .before .before .before .before .before .before .before .before .before .pre .0 .is) (c .before .before .before .before .before .before .before .before .before .before .before .pre .1 .0)) _ _ _ (file-at _ _ (c .before .before .before .before .before .before .before .before .before .before .before .pre .0 .is) _ _ (c .before .before .before .before .before .before .whole-file .ensures)) (c .before .before .before .before .before .file-rules .ensures) _ _ (omega (arith, c .before .before .before .before .before .before .before .before .loop-test .taken, c .before .before .before .before .before .before .before .before .before .before .before .pre .0 .files)) (c .before .before .before .before .before .before .before .before .before .loop .inv .1 .0) (c .before .before .before .before .if1 .left) (c .before .before .before .before .before .before .before .before .before .loop .inv .1 .1 .0) (c .before .before .file-key .ensures) (c .before .meet .ensures .0) ∙ ap not (c .if2 .taken))
+returns-2 c = tally-fails _ _ _ (c .before .before .before .before .before .before .before .before .loop-test .taken) (file-decides _ (few _ _ (c .before .before .before .before .before .before .before .before .before .before .before .pre .0 .is) (c .before .before .before .before .before .before .before .before .before .before .before .pre .1 .0)) _ _ _ (file-read _ _ (c .before .before .before .before .before .before .before .before .before .before .before .pre .0 .is) _ _ (c .before .before .before .before .before .before .file-at .ensures)) (c .before .before .before .before .before .file-rules .ensures) _ _ (omega (arith, c .before .before .before .before .before .before .before .before .loop-test .taken, c .before .before .before .before .before .before .before .before .before .before .before .pre .0 .files)) (c .before .before .before .before .before .before .before .before .before .loop .inv .1 .0) (c .before .before .before .before .if1 .left) (c .before .before .before .before .before .before .before .before .before .loop .inv .1 .1 .0) (c .before .before .file-key .ensures) (c .before .meet .ensures .0) ∙ ap not (c .if2 .taken))
 
 cast-sum : tie.Need-cast-sum Inv-loop μ-loop
 cast-sum c = omega arith
@@ -62,7 +62,7 @@ loop-less : tie.Need-loop-less Inv-loop μ-loop
 loop-less c = omega (arith, c .before .before .before .before .before .before .before .before .before .loop-test .taken)
 
 loop-again : tie.Need-loop-again Inv-loop μ-loop
-loop-again c = (omega (arith, c .before .before .before .before .before .before .before .before .before .loop-test .taken), (every-more _ _ (c .before .before .before .before .before .before .before .before .before .before .loop .inv .1 .0) (file-decides _ (few _ _ (c .before .before .before .before .before .before .before .before .before .before .before .before .pre .0 .is) (c .before .before .before .before .before .before .before .before .before .before .before .before .pre .1 .0)) _ _ _ (file-at _ _ (c .before .before .before .before .before .before .before .before .before .before .before .before .pre .0 .is) _ _ (c .before .before .before .before .before .before .before .whole-file .ensures)) (c .before .before .before .before .before .before .file-rules .ensures) _ _ (omega (arith, c .before .before .before .before .before .before .before .before .before .loop-test .taken, c .before .before .before .before .before .before .before .before .before .before .before .before .pre .0 .files)) (c .before .before .before .before .before .before .before .before .before .before .loop .inv .1 .0) (c .before .before .before .before .before .if1 .left) (c .before .before .before .before .before .before .before .before .before .before .loop .inv .1 .1 .0) (c .before .before .before .file-key .ensures) (c .before .before .meet .ensures .0) ∙ ap not (c .before .if2 .left)), (file-holds _ (few _ _ (c .before .before .before .before .before .before .before .before .before .before .before .before .pre .0 .is) (c .before .before .before .before .before .before .before .before .before .before .before .before .pre .1 .0)) _ _ _ (file-at _ _ (c .before .before .before .before .before .before .before .before .before .before .before .before .pre .0 .is) _ _ (c .before .before .before .before .before .before .before .whole-file .ensures)) (c .before .before .before .before .before .before .file-rules .ensures) _ (c .before .before .before .before .before .before .before .before .before .before .loop .inv .1 .1 .0) (c .before .before .before .file-key .ensures) (c .before .before .meet .ensures .1), (omega (arith, c .before .before .before .before .before .before .before .before .before .before .loop .inv .1 .1 .1 .0), sizes-more _ _ _ _ (c .before .before .before .before .before .before .before .before .before .before .loop .inv .1 .1 .1 .1) (ap (λ (x : Entry). x .size) (file-at _ _ (c .before .before .before .before .before .before .before .before .before .before .before .before .pre .0 .is) _ _ (c .before .before .before .before .before .before .before .whole-file .ensures)))))))
+loop-again c = (omega (arith, c .before .before .before .before .before .before .before .before .before .loop-test .taken), (every-more _ _ (c .before .before .before .before .before .before .before .before .before .before .loop .inv .1 .0) (file-decides _ (few _ _ (c .before .before .before .before .before .before .before .before .before .before .before .before .pre .0 .is) (c .before .before .before .before .before .before .before .before .before .before .before .before .pre .1 .0)) _ _ _ (file-read _ _ (c .before .before .before .before .before .before .before .before .before .before .before .before .pre .0 .is) _ _ (c .before .before .before .before .before .before .before .file-at .ensures)) (c .before .before .before .before .before .before .file-rules .ensures) _ _ (omega (arith, c .before .before .before .before .before .before .before .before .before .loop-test .taken, c .before .before .before .before .before .before .before .before .before .before .before .before .pre .0 .files)) (c .before .before .before .before .before .before .before .before .before .before .loop .inv .1 .0) (c .before .before .before .before .before .if1 .left) (c .before .before .before .before .before .before .before .before .before .before .loop .inv .1 .1 .0) (c .before .before .before .file-key .ensures) (c .before .before .meet .ensures .0) ∙ ap not (c .before .if2 .left)), (file-holds _ (few _ _ (c .before .before .before .before .before .before .before .before .before .before .before .before .pre .0 .is) (c .before .before .before .before .before .before .before .before .before .before .before .before .pre .1 .0)) _ _ _ (file-read _ _ (c .before .before .before .before .before .before .before .before .before .before .before .before .pre .0 .is) _ _ (c .before .before .before .before .before .before .before .file-at .ensures)) (c .before .before .before .before .before .before .file-rules .ensures) _ (c .before .before .before .before .before .before .before .before .before .before .loop .inv .1 .1 .0) (c .before .before .before .file-key .ensures) (c .before .before .meet .ensures .1), (omega (arith, c .before .before .before .before .before .before .before .before .before .before .loop .inv .1 .1 .1 .0), sizes-more _ _ _ _ (c .before .before .before .before .before .before .before .before .before .before .loop .inv .1 .1 .1 .1) (ap (λ (x : Entry). x .size) (file-read _ _ (c .before .before .before .before .before .before .before .before .before .before .before .before .pre .0 .is) _ _ (c .before .before .before .before .before .before .before .file-at .ensures)))))))
 
 returns-3 : tie.Need-returns-3 Inv-loop μ-loop
 returns-3 c = tally-sum _ _ _ _ (c .before .loop .inv .0) (c .loop-test .left) (c .before .loop .inv .1 .0) (c .before .loop .inv .1 .1 .1 .1)
@@ -74,9 +74,9 @@ each-file-spec =
     Inv-loop
     μ-loop
     loop-holds
-    mul-whole-file
-    add-whole-file
-    whole-file-requires
+    mul-file-at
+    add-file-at
+    file-at-requires
     file-rules-requires
     returns
     file-key-requires
