@@ -6,3 +6,4 @@ pub mod Directories
 pub mod Files
 pub mod Sections
 pub mod Fitting
+pub mod Outcome
