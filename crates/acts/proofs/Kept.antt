@@ -12,15 +12,12 @@ use Rattle.card.specs.declared.Current.{Current}
 use Rattle.card.specs.declared.Current.the-variants.{Nothing, File}
 use Rattle.card.specs.declared.Session.{Session}
 use Rattle.card.proofs.Images.{image}
+use Rattle.card.proofs.Places.{store-inside}
 use Rattle.commands.specs.declared.answers.Reply.{Reply}
 use Rattle.commands.specs.Gives as given
 use Rattle.acts.specs.Leaves.{Tells}
 use Rattle.acts.specs.Ready.{Ready}
 use Rattle.acts.proofs.Lent.{frontBack, partBack}
-
--- the files' bytes start inside the image
-pub store-inside : (l : List ℕ) → Image l → index l .store ≤ length l
-store-inside l m = let w = m .whole in omega arith
 
 pub back : (l : List ℕ) (f : ℕ) → filled l (File f) (contents l f) ≡ l
 unfolding contents

@@ -19,7 +19,8 @@ use Rattle.commands.specs.Gives as given
 use Rattle.commands.specs.declared.answers.Reply.{Reply}
 use Rattle.acts.specs.Leaves.{Codes}
 use Rattle.acts.specs.Ready.{Ready}
-use Rattle.acts.proofs.Kept.{back, store-inside}
+use Rattle.acts.proofs.Kept.{back}
+use Rattle.card.proofs.Places.{store-inside}
 
 -- a part of the first of two lists, and other bytes there, as a part of both
 module _ (x y : List ℕ) (at k : ℕ) (fits : at + k ≤ length x) where

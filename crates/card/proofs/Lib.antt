@@ -6,9 +6,9 @@ pub mod Frames
 -- Images and heads, and the sessions that fit them.
 pub mod Images
 pub mod Heads
+pub mod Places
 pub mod Fitting
 -- The order of refusals, the form of a command, and the ways out of `play`.
-pub mod Places
 pub mod Refusals
 pub mod Forms
 pub mod Walk

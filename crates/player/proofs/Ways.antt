@@ -18,7 +18,7 @@ use Rattle.card.specs.declared.Instruction.{Instruction}
 use Rattle.card.specs.declared.Session.{Session}
 use Rattle.card.proofs.Images.{image}
 use Rattle.acts.specs.Ready.{Ready}
-use Rattle.acts.proofs.Kept.{store-inside}
+use Rattle.card.proofs.Places.{store-inside}
 use Rattle.player.specs.declared.Played.{Played}
 use Rattle.player.specs.Ends.{Ends}
 

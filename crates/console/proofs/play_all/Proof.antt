@@ -7,10 +7,6 @@ use borrow.Author.Needs.{needs}
 use Rattle.acts.specs.Ready.{Ready}
 use Rattle.console.proofs.play_all.Statement.{statement}
 use Rattle.console.proofs.play_all.Tie as tie
-use Rattle.console.proofs.play_all.Reads as reads
-use Rattle.console.proofs.play_all.Lts as lts
-use Rattle.console.proofs.play_one.Reads as play-one-reads
-use Rattle.runs.proofs.tested.Reads as tested-reads
 
 abbrev Inv-loop : tie.InvT-loop
 Inv-loop image₀ n session₀ known space₀ room₀ k₀ image session space room k =

@@ -4,12 +4,6 @@ use Rattle.io.proofs.Counting.{front}
 use Rattle.console.proofs.Responses.{within}
 use Rattle.console.proofs.play_one.Statement.{statement}
 use Rattle.console.proofs.play_one.Tie as tie
-use Rattle.console.proofs.play_one.Reads as reads
-use Rattle.console.proofs.play_one.Lts as lts
-use Rattle.console.proofs.line.report.Reads as report-reads
-use Rattle.runs.proofs.play_on.Reads as play-on-reads
-use Rattle.streams.proofs.input.fill.Reads as fill-reads
-use Rattle.streams.proofs.input.read_count.Reads as read-count-reads
 
 read-count-requires : tie.Need-read-count-requires
 read-count-requires c κs = search needs

@@ -7,8 +7,6 @@ use Rattle.card.specs.declared.Answer.{Answer}
 use borrow.Author.Needs.{needs}
 use Rattle.runs.proofs.number.Statement.{statement}
 use Rattle.runs.proofs.number.Tie as tie
-use Rattle.runs.proofs.number.Reads as reads
-use Rattle.runs.proofs.number.Lts as lts
 
 -- what is written in an arm is written of the answer that was matched
 spoken : {a b : Answer} → a ≡ b → number b < 5 → (number b ≡ number a) × (number b < 5)

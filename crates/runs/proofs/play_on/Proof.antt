@@ -7,10 +7,6 @@ use borrow.Author.Needs.{needs}
 use Rattle.runs.proofs.Again.{again}
 use Rattle.runs.proofs.play_on.Statement.{statement}
 use Rattle.runs.proofs.play_on.Tie as tie
-use Rattle.runs.proofs.play_on.Reads as reads
-use Rattle.runs.proofs.play_on.Lts as lts
-use Rattle.player.proofs.play.Reads as play-reads
-use Rattle.player.proofs.play_ready.Reads as play-ready-reads
 
 play-ready-requires : tie.Need-play-ready-requires
 play-ready-requires c κs = c .before .before .before .before .before .before .pre (c .before .before .if1 .taken)

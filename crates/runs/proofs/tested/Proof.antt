@@ -7,11 +7,6 @@ use borrow.Author.Needs.{needs}
 use Rattle.player.proofs.Ways.{truly, inside, byHead}
 use Rattle.runs.proofs.tested.Statement.{statement}
 use Rattle.runs.proofs.tested.Tie as tie
-use Rattle.runs.proofs.tested.Reads as reads
-use Rattle.runs.proofs.tested.Lts as lts
-use Rattle.shelf.proofs.read.index.Reads as index-reads
-use Rattle.shelf_check.proofs.is_image.Reads as is-image-reads
-use Rattle.shelf_check.proofs.session_fits.Reads as session-fits-reads
 
 is-image-requires : tie.Need-is-image-requires
 is-image-requires c κs = search needs

@@ -1,19 +1,15 @@
+-- `console::line::hexed` meets its contract: the place lies in the text.
 use borrow.Author.Needs.{needs}
 use Rattle.io.proofs.Counting.{counts}
 use Rattle.console.proofs.line.hexed.Statement.{statement}
 use Rattle.console.proofs.line.hexed.Tie as tie
-use Rattle.console.proofs.line.hexed.Reads as reads
-use Rattle.console.proofs.line.hexed.Lts as lts
 
--- src/line.rt:107:5
 push-hex-requires : tie.Need-push-hex-requires
 push-hex-requires c κs = search needs
 
--- src/line.rt:104:1
 same-length : tie.Need-same-length
 same-length c = search needs
 
--- src/line.rt:104:1
 returns : tie.Need-returns
 returns c = counts _ _ (search needs)
 

@@ -1,13 +1,9 @@
+-- `console::line::write_hex` meets its contract: each piece ends inside the bytes and after its start.
 use Prim.Native.Nat.{_≤_, _-_}
 use lib.ListN.{length}
 use borrow.Author.Needs.{needs}
 use Rattle.console.proofs.line.write_hex.Statement.{statement}
 use Rattle.console.proofs.line.write_hex.Tie as tie
-use Rattle.console.proofs.line.write_hex.Reads as reads
-use Rattle.console.proofs.line.write_hex.Lts as lts
-use Rattle.console.proofs.line.hexed.Reads as hexed-reads
-use Rattle.console.proofs.line.piece.Reads as piece-reads
-use Rattle.io.proofs.write_all.Reads as write-reads
 
 abbrev Inv-loop : tie.InvT-loop
 Inv-loop bytes at₀ at = at ≤ length bytes
@@ -15,55 +11,42 @@ Inv-loop bytes at₀ at = at ≤ length bytes
 abbrev μ-loop : tie.MeasureT-loop
 μ-loop bytes at₀ at = length bytes - at
 
--- src/line.rt:124:5
 loop-holds : tie.Need-loop-holds Inv-loop μ-loop
 loop-holds c = search needs
 
--- src/line.rt:125:13
 piece-requires : tie.Need-piece-requires Inv-loop μ-loop
 piece-requires c κs = search needs
 
--- src/line.rt:127:23
 slice-aggregate-hexed : tie.Need-slice-aggregate-hexed Inv-loop μ-loop
 slice-aggregate-hexed c = search needs
 
--- src/line.rt:127:34
 sub-hexed : tie.Need-sub-hexed Inv-loop μ-loop
 sub-hexed c = search needs
 
--- src/line.rt:127:34
 part-hexed-start : tie.Need-part-hexed-start Inv-loop μ-loop
 part-hexed-start c = search needs
 
--- src/line.rt:127:34
 part-hexed-end : tie.Need-part-hexed-end Inv-loop μ-loop
 part-hexed-end c = search needs
 
--- src/line.rt:127:13
 hexed-requires : tie.Need-hexed-requires Inv-loop μ-loop
 hexed-requires c κs = search needs
 
--- src/line.rt:128:38
 array-share-prefix-text : tie.Need-array-share-prefix-text Inv-loop μ-loop
 array-share-prefix-text c = search needs
 
--- src/line.rt:128:38
 slice-aggregate-write : tie.Need-slice-aggregate-write Inv-loop μ-loop
 slice-aggregate-write c = search needs
 
--- src/line.rt:128:9
 write-requires : tie.Need-write-requires Inv-loop μ-loop
 write-requires c κs = search needs
 
--- src/line.rt:124:5
 loop-less : tie.Need-loop-less Inv-loop μ-loop
 loop-less c = search needs
 
--- src/line.rt:124:5
 loop-again : tie.Need-loop-again Inv-loop μ-loop
 loop-again c = search needs
 
--- src/line.rt:122:1
 returns : tie.Need-returns Inv-loop μ-loop
 returns c = search needs
 
