@@ -2,3 +2,4 @@ pub mod Choice
 pub mod Values
 pub mod Shown
 pub mod Cases
+pub mod Lengths

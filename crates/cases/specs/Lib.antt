@@ -4,3 +4,4 @@ pub mod Operations
 pub mod Values
 pub mod Shown
 pub mod Cases
+pub mod Lengths
