@@ -1,5 +1,5 @@
 pub mod Choice
 pub mod Values
 pub mod Shown
-pub mod Lines
 pub mod Cases
+pub mod Lengths

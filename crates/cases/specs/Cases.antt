@@ -1,4 +1,5 @@
--- A case, by its kind: what a decode shows of a file, and what an encode makes of it. An unknown kind is 6.
+-- A case, by its kind: what a decode shows of a file, and what an encode makes of it. An unknown kind is 6;
+-- an unknown operation is 5 if the file's length is wrong for its kind, else 6, and changes nothing.
 use Prim.Native.Nat.{ℕ}
 use mathlib.Core.List.{List, []}
 use lib.ListN.{length}
@@ -11,7 +12,7 @@ use Rattle.codings.specs.Spn as spn
 use Rattle.codings.specs.Admin as admin
 use Rattle.codings.specs.Admin.{setting}
 use Rattle.cases.specs.Values.{entryOf, entryBytes, asked, ordered, stateOf, stateBytes, modeOf, mncOf, settingBytes, providerOf, providerBytes}
-use Rattle.cases.specs.Shown.{shown, alone}
+use Rattle.cases.specs.Shown.{shown, alone, refusal}
 use Rattle.cases.specs.declared.kinds.Kind.{Kind}
 use Rattle.cases.specs.declared.kinds.Kind.the-variants.{Iccid, Imsi, Network, Services, Spn, Admin, Unknown}
 
@@ -32,3 +33,7 @@ encode Services v file = services.write file (ordered v) (stateOf v)
 encode Spn v file = spn.encode (providerOf v) file
 encode Admin v file = admin.encode (setting (modeOf v) (mncOf v)) file
 encode Unknown v file = outcome 6 file
+
+-- the answer to an unknown operation: a decode of the file tells whether its length is wrong
+unfoldable pub other : Kind → List ℕ → ℕ
+other k file = refusal (decode k [] file .answer)

@@ -15,9 +15,13 @@ use Rattle.cases.specs.declared.shown.Shown.{Shown}
 unfoldable pub shown : {A : Type 0} → (A → List ℕ) → Outcome A → Outcome (List ℕ)
 shown bytes o = choose (eqb (o .answer) 0) (done (bytes (o .value))) (outcome (o .answer) [])
 
--- a decode that takes no value: with one of some bytes it is refused, by 5 if the length is wrong, else by 6
+-- a refusal, whatever else was decided: 5 if the length is wrong, else 6
+unfoldable pub refusal : ℕ → ℕ
+refusal answer = choose (eqb answer 5) 5 6
+
+-- a decode that takes no value: with one of some bytes it is refused
 unfoldable pub alone : ℕ → Outcome (List ℕ) → Outcome (List ℕ)
-alone given o = choose (eqb given 0) o (outcome (choose (eqb (o .answer) 5) 5 6) [])
+alone given o = choose (eqb given 0) o (outcome (refusal (o .answer)) [])
 
 -- The struct shows an outcome: its answer by the paper's number, the value with zeros after it, and its count.
 pub record Shows (r : Shown) (o : Outcome (List ℕ)) : Type 0 where

@@ -1,19 +1,20 @@
 // A case of the bench: a kind, the bytes of a file and the bytes of a value, to decode or to encode.
 // What a case shows is the definition, in specs/.
 mod kinds;
-mod lines;
+mod operations;
 mod shown;
 mod values;
 
 use codings::Answer;
 pub use kinds::Kind;
 pub use kinds::kind_of;
-pub use lines::text;
+pub use operations::Operation;
+pub use operations::operation_of;
 pub use shown::Shown;
 ghost use mathlib.Core.Path.{_≡_};
-ghost use Rattle.codings.specs.Answers.{told};
+ghost use Rattle.codings.specs.Answers.{number, told};
 ghost use Rattle.cases.specs.Shown.{Shows};
-ghost use Rattle.cases.specs.Cases.{decode, encode};
+ghost use Rattle.cases.specs.Cases.{decode, encode, other};
 
 // What a decode shows of the file. Only a service table takes a value, the service's number.
 pub fn decode(kind: Kind, value: &[u8], file: &[u8]) -> Shown
@@ -47,4 +48,13 @@ pub fn encode(kind: Kind, value: &[u8], file: &mut [u8]) -> Answer
         Kind::Admin => codings::admin::encode(values::mode(value), values::mnc(value), file),
         Kind::Unknown => Answer::Value,
     }
+}
+
+// The answer to an unknown operation, which changes nothing and shows no value.
+pub fn other(kind: Kind, file: &[u8]) -> Answer
+    ensures { λ r. ⌜ number r ≡ other kind (now (file .entry)) ⌝ }
+{
+    let r = decode(kind, b"", file);
+    let answer = r.answer;
+    shown::stricter(answer)
 }

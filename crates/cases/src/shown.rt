@@ -14,7 +14,7 @@ ghost use Rattle.codings.specs.Services.{read as serviceIn};
 ghost use Rattle.codings.specs.Spn.{decode as spnIn};
 ghost use Rattle.codings.specs.Admin.{decode as adminIn};
 ghost use Rattle.cases.specs.Values.{entryBytes, stateByte, stateBytes, providerBytes, mncByte, settingBytes};
-ghost use Rattle.cases.specs.Shown.{Shows, kept, without, shown};
+ghost use Rattle.cases.specs.Shown.{Shows, kept, stricter, without, shown};
 
 pub struct Shown {
     pub answer: Answer,
@@ -55,6 +55,17 @@ fn kept(answer: Answer, value: [u8; 20], count: usize) -> Shown
     }
 }
 
+// The refusal of what was decoded all the same: a wrong length stays one.
+pub(crate) fn stricter(answer: Answer) -> Answer
+    ensures { λ r. ⌜ r ≡ stricter answer ⌝ }
+{
+    match answer {
+        Answer::Done => Answer::Value,
+        Answer::Length => Answer::Length,
+        Answer::Value => Answer::Value,
+    }
+}
+
 // A decode that takes no value: where one was given, of so many bytes, it is refused.
 pub(crate) fn alone(given: usize, r: Shown) -> Shown
     ensures { λ q. ⌜ q ≡ without given r ⌝ }
@@ -62,23 +73,11 @@ pub(crate) fn alone(given: usize, r: Shown) -> Shown
     if given == 0 {
         return r;
     }
-    let a = r.answer;
-    match a {
-        Answer::Done => Shown {
-            answer: Answer::Value,
-            value: [0u8; 20],
-            count: 0,
-        },
-        Answer::Length => Shown {
-            answer: Answer::Length,
-            value: [0u8; 20],
-            count: 0,
-        },
-        Answer::Value => Shown {
-            answer: Answer::Value,
-            value: [0u8; 20],
-            count: 0,
-        },
+    let answer = r.answer;
+    Shown {
+        answer: stricter(answer),
+        value: [0u8; 20],
+        count: 0,
     }
 }
 

@@ -1,159 +1,137 @@
 // Decodes and encodes the cases on standard input: their number, and for each its kind, its operation, its file's bytes and
 // its value's bytes after their counts. One line a case, written before the next is read.
 use cases::Kind;
+use cases::Operation;
 use codings::Answer;
-use libc::STDIN_FILENO;
-use libc::STDOUT_FILENO;
+use streams::input;
+use streams::input::Count;
+use streams::short_input;
+use streams::text::push;
+use streams::text::push_hex;
+use streams::text::push_number;
+use streams::write;
 ghost use mathlib.Core.Path.{_≡_};
-ghost use Prim.Native.Nat.{_+_, _*_, _<_};
+ghost use Prim.Native.Nat.{_≤_, _<_};
 ghost use lib.ListN.{length};
+ghost use Rattle.io.specs.Counts.{Counts};
 
-fn put(text: &[u8]) {
-    io::write_all(STDOUT_FILENO, text);
-}
-
-fn short_input() {
-    put(b"short input\n");
-}
-
-fn wide(b: u8) -> usize
-    ensures { λ r. ⌜ (r ≡ b) × (r < 256) ⌝ }
+// Number, answer, the file's bytes and the value's: how many bytes of the text they take.
+fn spell(text: &mut [u8], k: usize, answer: Answer, file: &[u8], value: &[u8]) -> usize
+    ensures { λ r. ⌜ Counts r (now (text .exit)) ⌝ }
 {
-    b as usize
-}
-
-// Two bytes, high byte first.
-fn word(high: u8, low: u8) -> usize
-    ensures { λ r. ⌜ (r ≡ 256 * high + low) × (r < 65536) ⌝ }
-{
-    256 * wide(high) + wide(low)
-}
-
-// Bytes in hexadecimal, by way of a room for text.
-fn put_hex(bytes: &[u8], room: &mut [u8]) {
-    let n = cases::text(bytes, room);
-    put(&room[..n]);
+    let mut at = push_number(text, 0, k);
+    at = push(text, at, b' ');
+    at = push(text, at, b'0' + codings::number(answer));
+    at = push(text, at, b' ');
+    at = push_hex(text, at, file);
+    at = push(text, at, b' ');
+    at = push_hex(text, at, value);
+    push(text, at, b'\n')
 }
 
 // A case's line.
-fn line(number: u64, answer: Answer, file: &[u8], value: &[u8], room: &mut [u8]) {
-    io::print_decimal(STDOUT_FILENO, number);
-    put(b" ");
-    io::print_decimal(STDOUT_FILENO, codings::number(answer) as u64);
-    put(b" ");
-    put_hex(file, room);
-    put(b" ");
-    put_hex(value, room);
-    put(b"\n");
+fn report(k: usize, answer: Answer, file: &[u8], value: &[u8], text: &mut [u8]) {
+    let n = spell(text, k, answer, file, value);
+    write(&text[..n]);
 }
 
-// The line of a decode: the value's bytes are the first so many.
-fn line_of(number: u64, answer: Answer, file: &[u8], value: &[u8], count: usize, room: &mut [u8]) {
-    if count > value.len() {
-        return;
-    }
-    line(number, answer, file, &value[..count], room);
-}
-
-// One case: the line is written for what a decode shows, or for the value that was encoded.
-fn play(number: u64, kind: Kind, operation: u8, file: &mut [u8], value: &[u8], room: &mut [u8]) {
-    if operation == 0 {
-        let r = cases::decode(kind, value, file);
-        let answer = r.answer;
-        let shown = r.value;
-        let count = r.count;
-        line_of(number, answer, file, &shown, count, room);
-        return;
-    }
-    if operation == 1 {
-        let answer = cases::encode(kind, value, file);
-        line(number, answer, file, value, room);
-        return;
-    }
-    line(number, Answer::Value, file, b"", room);
-}
-
-// Reads so many bytes to the start of a buffer. Answers whether they were there.
-fn fill(buffer: &mut [u8], n: usize) -> bool {
-    if n > buffer.len() {
-        return false;
-    }
-    let got = io::read_full(STDIN_FILENO, &mut buffer[..n]);
-    got == n
-}
-
-// Reads a count and so many bytes. Answers the count, or one that no buffer has where the input ends.
-fn fill_counted(buffer: &mut [u8]) -> usize {
-    let mut count = [0u8; 2];
-    if io::read_full(STDIN_FILENO, &mut count) < 2 {
-        return 65536;
-    }
-    let n = word(count[0], count[1]);
-    if !fill(buffer, n) {
-        return 65536;
-    }
-    n
-}
-
-// Reads one case and plays it. Answers whether its input was there.
-fn next(number: u64, file: &mut [u8], value: &mut [u8], room: &mut [u8]) -> bool {
-    let mut head = [0u8; 2];
-    if io::read_full(STDIN_FILENO, &mut head) < 2 {
-        return false;
-    }
-    let size = fill_counted(file);
-    if size >= 65536 {
-        return false;
-    }
-    let long = fill_counted(value);
-    if long >= 65536 {
-        return false;
-    }
-    if size > file.len() {
-        return false;
-    }
-    if long > value.len() {
-        return false;
-    }
-    play(
-        number,
-        cases::kind_of(head[0]),
-        head[1],
-        &mut file[..size],
-        &value[..long],
-        room,
-    );
-    true
-}
-
-// All cases, one after the other.
-fn run(last: usize, file: &mut [u8], value: &mut [u8], room: &mut [u8]) {
-    let mut i = 0;
-    while i < last {
-        i += 1;
-        if !next(i as u64, file, value, room) {
-            short_input();
-            return;
+// One case: its line shows what was decoded, or the value that was to be encoded.
+fn play(
+    k: usize,
+    kind: Kind,
+    operation: Operation,
+    file: &mut [u8],
+    value: &[u8],
+    text: &mut [u8],
+) {
+    match operation {
+        Operation::Decode => {
+            let r = cases::decode(kind, value, file);
+            let answer = r.answer;
+            let shown = r.value;
+            let count = r.count;
+            report(k, answer, file, &shown[..count], text);
+        }
+        Operation::Encode => {
+            let answer = cases::encode(kind, value, file);
+            report(k, answer, file, value, text);
+        }
+        Operation::Unknown => {
+            let answer = cases::other(kind, file);
+            report(k, answer, file, b"", text);
         }
     }
 }
 
-// Room for the characters of a file's bytes.
-fn text_room() -> [u8; 131072]
-    ensures { λ r. ⌜ 131072 ≡ length r ⌝ }
+// Reads a count and so many bytes.
+fn fill_counted(to: &mut [u8]) -> Count
+    requires { ⌜ 65536 ≤ length (now to) ⌝ }
+    ensures { λ r. ⌜ r .value < 65536 ⌝ }
 {
-    [0; 131072]
+    let m = input::read_count();
+    let value = m.value;
+    let mut came = m.came;
+    if came {
+        came = input::fill(&mut to[..value]);
+    }
+    Count { came, value }
+}
+
+// Reads case k, plays it and writes its line. Answers whether all of it came.
+fn next(k: usize, file: &mut [u8], value: &mut [u8], text: &mut [u8]) -> bool
+    requires { ⌜ (65536 ≤ length (now file)) × (65536 ≤ length (now value)) ⌝ }
+{
+    let mut head = [0u8; 2];
+    if !input::fill(&mut head) {
+        return false;
+    }
+    let f = fill_counted(file);
+    if !f.came {
+        return false;
+    }
+    let v = fill_counted(value);
+    if !v.came {
+        return false;
+    }
+    let kind = cases::kind_of(head[0]);
+    let operation = cases::operation_of(head[1]);
+    let size = f.value;
+    let long = v.value;
+    play(k, kind, operation, &mut file[..size], &value[..long], text);
+    true
+}
+
+// So many cases. Answers whether all of them came.
+fn play_all(n: usize, file: &mut [u8], value: &mut [u8], text: &mut [u8]) -> bool
+    requires { ⌜ (65536 ≤ length (now file)) × (65536 ≤ length (now value)) ⌝ }
+{
+    let mut k = 0;
+    while k < n {
+        k += 1;
+        if !next(k, file, value, text) {
+            return false;
+        }
+    }
+    true
+}
+
+// Room for the longest line: each file byte and each value byte takes two characters.
+fn text_room() -> [u8; 262200]
+    ensures { λ r. ⌜ 262200 ≡ length r ⌝ }
+{
+    [0; 262200]
 }
 
 fn main() {
-    let mut count = [0u8; 2];
-    if io::read_full(STDIN_FILENO, &mut count) < 2 {
+    let n = input::read_count();
+    if !n.came {
         short_input();
         return;
     }
-    let last = word(count[0], count[1]);
     let mut file = io::large_buffer();
     let mut value = io::large_buffer();
-    let mut room = text_room();
-    run(last, &mut file, &mut value, &mut room);
+    let mut text = text_room();
+    if !play_all(n.value, &mut file, &mut value, &mut text) {
+        short_input();
+    }
 }

@@ -17,7 +17,7 @@ use Rattle.codings.specs.declared.spn.Spn.{Spn}
 use Rattle.codings.proofs.Laws.Spn.{headed, bits-are}
 use Rattle.cases.specs.Choice.{choose}
 use Rattle.cases.specs.Values.{providerBytes}
-use Rattle.cases.specs.Shown.{Shows, shown, alone, kept, stricter, without}
+use Rattle.cases.specs.Shown.{Shows, shown, alone, refusal, kept, stricter, without}
 use Rattle.cases.specs.declared.shown.Shown.{Shown}
 use Rattle.cases.proofs.Laws.Choice.{first, next}
 
@@ -49,13 +49,13 @@ module _ (given : ℕ) (r : Shown) where
   unfolding without
   not-given e = first _ _ _ (eq-eqb _ _ e)
 
-  pub was-given : (a b : Answer) → ¬ (given ≡ 0) → r .answer ≡ a → stricter a ≡ b
+  pub was-given : (b : Answer) → ¬ (given ≡ 0) → b ≡ stricter (r .answer)
       → _≡_ {A = Shown} (record { answer = b; value = replicate 20 0; count = 0 }) (without given r)
   unfolding without
-  was-given a b n e k = next _ _ _ _ (ne-eqb _ _ n) (λ i. record { answer = sym (ap stricter e ∙ k) i; value = replicate 20 0; count = 0 })
+  was-given b n e = next _ _ _ _ (ne-eqb _ _ n) (λ i. record { answer = e i; value = replicate 20 0; count = 0 })
 
-strict : (a : Answer) → number (stricter a) ≡ choose (eqb (number a) 5) 5 6
-unfolding choose
+pub strict : (a : Answer) → number (stricter a) ≡ refusal (number a)
+unfolding refusal choose
 strict Done = refl
 strict Length = refl
 strict Value = refl
@@ -64,14 +64,14 @@ pub by-itself : (given : ℕ) (r q : Shown) (o : Outcome (List ℕ)) → q ≡ w
 unfolding without alone choose padded
 by-itself given r q o e s = rw e (go (eqb given 0))
   where
-    refusal : number (stricter (r .answer)) ≡ choose (eqb (o .answer) 5) 5 6
-    refusal = strict (r .answer) ∙ ap (λ (x : ℕ). choose (eqb x 5) 5 6) (s .answer)
+    refused : number (stricter (r .answer)) ≡ refusal (o .answer)
+    refused = strict (r .answer) ∙ ap refusal (s .answer)
 
     go : (t : Bool)
         → Shows (choose t r (record { answer = stricter (r .answer); value = replicate 20 0; count = 0 }))
-        (choose t o (outcome (choose (eqb (o .answer) 5) 5 6) []))
+        (choose t o (outcome (refusal (o .answer)) []))
     go true = s
-    go false = record { answer = refusal; value = refl; count = refl }
+    go false = record { answer = refused; value = refl; count = refl }
 
 -- a text that is padded is padded further
 replicated : (f a b : ℕ) → replicate a f ++ replicate b f ≡ replicate (a + b) f
