@@ -7,6 +7,7 @@ pub mod Frames
 pub mod Images
 pub mod Heads
 pub mod Fitting
+pub mod Places
 -- The order of refusals, the form of a command, and the ways out of `play`.
 pub mod Refusals
 pub mod Forms

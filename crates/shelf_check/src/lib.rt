@@ -1,6 +1,8 @@
 // Tests an image of the shelf form, and whether a session fits it.
 mod check;
+mod entries;
 mod fit;
+mod marks;
 mod rules;
 
 ghost use mathlib.Core.Path.{_≡_};
@@ -20,10 +22,7 @@ pub fn is_image(image: &[u8]) -> bool
     if !check::directories_sound(image, i) {
         return false;
     }
-    if !check::files_sound(image, i) {
-        return false;
-    }
-    check::bytes_sound(image, i)
+    check::files_sound(image, i)
 }
 
 // Whether a session fits the image with this head.

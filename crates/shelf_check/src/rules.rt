@@ -1,10 +1,10 @@
 // The rules of one entry.
 ghost use mathlib.Core.Path.{_≡_};
-ghost use Prim.Native.Nat.{_<_};
-ghost use Rattle.card.specs.Bytes.{none};
-ghost use Rattle.card.specs.Layout.{directory, file, records};
-ghost use Rattle.card.specs.Shelf.{all, codeRules, directoryRules, fileRules, below, within, twins, twinFiles, recordsRule, topRule};
+ghost use Prim.Native.Nat.{_<_, _/_, _%_};
+ghost use Rattle.card.specs.Layout.{directory, records};
+ghost use Rattle.card.specs.Shelf.{all, codeRules, below, within, recordsRule, topRule};
 ghost use Rattle.shelf.specs.Reads.{Indexed};
+ghost use Rattle.shelf_check.specs.Apart.{ownDirectory, ownFile, directoryKey, fileKey};
 use card::Code;
 use card::Directory;
 use card::Entry;
@@ -39,75 +39,58 @@ pub fn code_rules(c: usize, k: Code) -> bool
     ((k.flags % 64) as usize <= 1 - c) & (k.attempts <= 3) & (k.unblocks <= 10) & (k.spare == 0)
 }
 
-// Two directories of one parent and one identifier.
-pub fn twins(a: Directory, b: Directory) -> bool
-    ensures { λ r. ⌜ r ≡ twins a b ⌝ }
-{
-    (a.parent == b.parent) & (a.identifier == b.identifier)
-}
-
-// Two files of one directory and one identifier.
-pub fn twin_files(a: Entry, b: Entry) -> bool
-    ensures { λ r. ⌜ r ≡ twinFiles a b ⌝ }
-{
-    (a.home == b.home) & (a.identifier == b.identifier)
-}
-
-// No directory of lower number than d has e's parent and identifier.
-pub fn lone_directory(l: &[u8], i: Index, d: usize, e: Directory) -> bool
+// The first byte of a directory's identifier.
+pub fn first_byte(l: &[u8], i: Index, d: u8) -> u16
     requires { ⌜ Indexed (now l) i ⌝ }
-    requires { ⌜ d < 65536 ⌝ }
-    ensures { λ r. ⌜ r ≡ none d (λ c. twins (directory (now (l .entry)) c) e) ⌝ }
+    ensures { λ r. ⌜ r ≡ directory (now (l .entry)) d .identifier / 256 ⌝ }
 {
-    let mut c = 0;
-    while c < d {
-        if twins(read::directory(l, i, c), e) {
-            return false;
-        }
-        c += 1;
-    }
-    true
+    read::word_at(l, i.tree + 8 * (d as usize)) / 256
 }
 
-// Directory d, whose entry is e.
+// Directory d, whose entry is e, but for twins.
 pub fn directory_rules(l: &[u8], i: Index, d: usize, e: Directory) -> bool
     requires { ⌜ Indexed (now l) i ⌝ }
-    requires { ⌜ d < 65536 ⌝ }
-    ensures { λ r. ⌜ r ≡ all (directoryRules (now (l .entry)) d e) ⌝ }
+    ensures { λ r. ⌜ r ≡ ownDirectory (now (l .entry)) d e ⌝ }
 {
     let root = d == 0;
-    let parent = e.parent as usize;
-    let up = read::directory(l, i, parent);
+    let up = first_byte(l, i, e.parent);
     (e.characteristics < 128)
         & (e.spare == 0)
         & (!root | (e.identifier == 0x3f00))
         & (!root | (e.parent == 0))
-        & (root | (parent < d))
-        & (root | below(up.identifier / 256, e.identifier / 256))
-        & lone_directory(l, i, d, e)
+        & (root | ((e.parent as usize) < d))
+        & (root | below(up, e.identifier / 256))
 }
 
-// No file of lower number than f has e's directory and identifier.
-pub fn lone_file(l: &[u8], i: Index, f: usize, e: Entry) -> bool
-    requires { ⌜ Indexed (now l) i ⌝ }
-    requires { ⌜ f < 65536 ⌝ }
-    ensures { λ r. ⌜ r ≡ none f (λ g. twinFiles (file (now (l .entry)) g) e) ⌝ }
+// What tells directory d from the others.
+pub fn directory_key(d: usize, e: Directory) -> usize
+    ensures { λ r. ⌜ r ≡ directoryKey d e ⌝ }
 {
-    let mut g = 0;
-    while g < f {
-        if twin_files(read::file(l, i, g), e) {
-            return false;
-        }
-        g += 1;
+    if d == 0 {
+        31
+    } else {
+        32 * ((e.identifier % 256) as usize) + (e.parent as usize)
     }
-    true
+}
+
+// How many times a part goes into a whole, and what is left; 0 goes into nothing.
+fn quotient(whole: usize, part: usize) -> usize
+    ensures { λ r. ⌜ r ≡ whole / part ⌝ }
+{
+    if part == 0 { 0 } else { whole / part }
+}
+
+fn remainder(whole: usize, part: usize) -> usize
+    ensures { λ r. ⌜ r ≡ whole % part ⌝ }
+{
+    if part == 0 { whole } else { whole % part }
 }
 
 // How many records a file has.
 pub fn records(e: Entry) -> usize
     ensures { λ r. ⌜ r ≡ records e ⌝ }
 {
-    read::quotient(e.size as usize, e.width as usize)
+    quotient(e.size as usize, e.width as usize)
 }
 
 // Top is below the number of records on a cyclic file, and 0 elsewhere.
@@ -128,28 +111,32 @@ pub fn size_rule(e: Entry) -> bool
     let size = e.size as usize;
     let width = e.width as usize;
     let n = records(e);
-    (0 < e.width) & (read::remainder(size, width) == 0) & (0 < n) & (n < 255)
+    (0 < e.width) & (remainder(size, width) == 0) & (0 < n) & (n < 255)
 }
 
-// File f, whose entry is e.
-pub fn file_rules(l: &[u8], i: Index, f: usize, e: Entry) -> bool
+// A file, whose entry is e, but for twins.
+pub fn file_rules(l: &[u8], i: Index, e: Entry) -> bool
     requires { ⌜ Indexed (now l) i ⌝ }
-    requires { ⌜ f < 65536 ⌝ }
-    ensures { λ r. ⌜ r ≡ all (fileRules (now (l .entry)) f e) ⌝ }
+    ensures { λ r. ⌜ r ≡ ownFile (now (l .entry)) e ⌝ }
 {
-    let home = e.home as usize;
-    let parent = read::directory(l, i, home);
+    let up = first_byte(l, i, e.home);
     let plain = e.structure == 0;
     let cyclic = e.structure == 3;
-    (home < i.directories)
+    ((e.home as usize) < i.directories)
         & (plain | (e.structure == 1) | cyclic)
         & (e.spare == 0)
-        & (e.identifier / 256 == within(parent.identifier / 256))
-        & lone_file(l, i, f, e)
+        & (e.identifier / 256 == within(up))
         & (!plain | ((0 < e.size) & (e.width == 0)))
         & (plain | size_rule(e))
         & ((e.increase == 0) | ((e.increase == 0x40) & cyclic & (e.width == 3)))
         & ((e.status % 4 <= 1) & (e.status < 8))
         & (e.access2 % 16 == 0)
         & top_rule(e)
+}
+
+// What tells a file from the others.
+pub fn file_key(e: Entry) -> usize
+    ensures { λ r. ⌜ r ≡ fileKey e ⌝ }
+{
+    32 * ((e.identifier % 256) as usize) + (e.home as usize)
 }

@@ -1,5 +1,5 @@
--- `shelf::is_image` meets its contract: a law for each way out.
-use Rattle.shelf_check.proofs.Sections.{fails, holds, no-codes, no-directories, no-files, image-if}
+-- `shelf_check::is_image` meets its contract: a law for each way out.
+use Rattle.shelf_check.proofs.Sections.{fails, holds, no-codes, no-directories, few-directories, image-if}
 use borrow.Author.Needs.{needs}
 use Rattle.shelf_check.proofs.is_image.Statement.{statement}
 use Rattle.shelf_check.proofs.is_image.Tie as tie
@@ -20,16 +20,10 @@ returns-2 : tie.Need-returns-2
 returns-2 c = no-directories _ (holds (c .before .before .before .codes-sound .ensures) (c .before .before .if1 .left)) (fails (c .before .directories-sound .ensures) (c .if2 .taken))
 
 files-sound-requires : tie.Need-files-sound-requires
-files-sound-requires c κs = search needs
+files-sound-requires c κs = (c .before .before .before .before .index .ensures, rw (c .before .before .before .before .index .ensures .is) (few-directories _ (holds (c .before .directories-sound .ensures) (c .if2 .left))))
 
 returns-3 : tie.Need-returns-3
-returns-3 c = no-files _ (holds (c .before .before .before .before .before .codes-sound .ensures) (c .before .before .before .before .if1 .left)) (holds (c .before .before .before .directories-sound .ensures) (c .before .before .if2 .left)) (fails (c .before .files-sound .ensures) (c .if3 .taken))
-
-bytes-sound-requires : tie.Need-bytes-sound-requires
-bytes-sound-requires c κs = search needs
-
-returns-4 : tie.Need-returns-4
-returns-4 c = image-if _ _ (holds (c .before .before .before .before .before .before .codes-sound .ensures) (c .before .before .before .before .before .if1 .left)) (holds (c .before .before .before .before .directories-sound .ensures) (c .before .before .before .if2 .left)) (holds (c .before .before .files-sound .ensures) (c .before .if3 .left)) (c .bytes-sound .ensures)
+returns-3 c = image-if _ _ (holds (c .before .before .before .before .codes-sound .ensures) (c .before .before .before .if1 .left)) (holds (c .before .before .directories-sound .ensures) (c .before .if2 .left)) (c .files-sound .ensures)
 
 pub is-image-spec : {M : Type 1} → statement M
 is-image-spec =
@@ -41,6 +35,4 @@ is-image-spec =
     directories-sound-requires
     returns-2
     files-sound-requires
-    returns-3
-    bytes-sound-requires
-    returns-4)
+    returns-3)

@@ -1,4 +1,4 @@
--- `shelf::session_fits` meets its contract: one law, from what each call says.
+-- `shelf_check::session_fits` meets its contract: one law, from what each call says.
 use Rattle.shelf_check.proofs.Fitting.{session-fits}
 use borrow.Author.Needs.{needs}
 use Rattle.shelf_check.proofs.session_fits.Statement.{statement}

@@ -1,39 +1,47 @@
 -- `shelf::read::code` meets its contract: each field is the byte at its place.
+use native.Mathlib.Omega.{arith}
 use borrow.Author.Needs.{needs}
 use Rattle.card.specs.Layout.{codeEntry, code}
 use Rattle.shelf.proofs.read.code.Statement.{statement}
 use Rattle.shelf.proofs.read.code.Tie as tie
 
 mul-at : tie.Need-mul-at
-mul-at c = search needs
+mul-at c = omega arith
 
 add-at : tie.Need-add-at
-add-at c = search needs
+add-at c = omega arith
 
 byte-at-requires : tie.Need-byte-at-requires
 byte-at-requires c κs = search needs
 
 add-byte-at : tie.Need-add-byte-at
-add-byte-at c = search needs
+add-byte-at c = omega arith
 
 byte-at-requires-2 : tie.Need-byte-at-requires-2
 byte-at-requires-2 c κs = search needs
 
 add-byte-at-2 : tie.Need-add-byte-at-2
-add-byte-at-2 c = search needs
+add-byte-at-2 c = omega arith
 
 byte-at-requires-3 : tie.Need-byte-at-requires-3
 byte-at-requires-3 c κs = search needs
 
 add-byte-at-3 : tie.Need-add-byte-at-3
-add-byte-at-3 c = search needs
+add-byte-at-3 c = omega arith
 
 byte-at-requires-4 : tie.Need-byte-at-requires-4
 byte-at-requires-4 c κs = search needs
 
 returns : tie.Need-returns
 unfolding code codeEntry
-returns c = cc
+returns c =
+    λ i.
+    record {
+      flags = c .before .before .before .byte-at .ensures i;
+      attempts = c .before .before .byte-at2 .ensures i;
+      unblocks = c .before .byte-at3 .ensures i;
+      spare = c .byte-at4 .ensures i;
+    }
 
 pub code-spec : {M : Type 1} → statement M
 code-spec =

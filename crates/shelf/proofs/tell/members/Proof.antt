@@ -7,7 +7,7 @@ use Rattle.card.specs.Bytes.{howMany}
 use Rattle.card.specs.Layout.{file}
 use Rattle.card.specs.Select.{member}
 use Rattle.shelf.proofs.Loops.{count-none, count-more, count-end}
-use Rattle.shelf.proofs.Told.{members-are}
+use Rattle.shelf.proofs.Told.{member-at, members-are}
 use Rattle.shelf.proofs.tell.members.Statement.{statement}
 use Rattle.shelf.proofs.tell.members.Tie as tie
 
@@ -39,10 +39,10 @@ loop-less : tie.Need-loop-less Inv-loop μ-loop
 loop-less c = search needs
 
 loop-again : tie.Need-loop-again Inv-loop μ-loop
-loop-again c = (omega arith, (omega (arith, c .bit .ensures .1), count-more _ _ _ _ (c .before .before .before .before .loop .inv .1 .1) (cc)))
+loop-again c = (omega (arith, c .before .before .before .loop-test .taken), (omega (arith, c .bit .ensures .1, c .before .before .before .before .loop .inv .1 .0), count-more _ _ _ _ (c .before .before .before .before .loop .inv .1 .1) (member-at _ _ _ _ _ _ (c .before .before .file .ensures) (c .before .member .ensures) (c .bit .ensures .0))))
 
 returns : tie.Need-returns Inv-loop μ-loop
-returns c = record { is = members-are _ _ (c .before .before .before .pre .is) _ _ (count-end _ _ (c .before .loop .f) _ (omega arith) (omega arith) (cc)); few = omega arith }
+returns c = record { is = members-are _ _ (c .before .before .before .pre .is) _ _ (count-end _ _ _ _ (c .before .loop .inv .0) (c .loop-test .left) (c .before .loop .inv .1 .1)); few = omega (arith, c .before .loop .inv .0, c .before .loop .inv .1 .0) }
 
 pub members-spec : {M : Type 1} → statement M
 members-spec =

@@ -1,12 +1,8 @@
--- `shelf::check::codes_sound` meets its contract: one law, from what each call says.
+-- `shelf_check::check::codes_sound` meets its contract: one law, from what each call says.
 use Rattle.shelf_check.proofs.Sections.{codes-sound}
 use borrow.Author.Needs.{needs}
 use Rattle.shelf_check.proofs.check.codes_sound.Statement.{statement}
 use Rattle.shelf_check.proofs.check.codes_sound.Tie as tie
-use Rattle.shelf_check.proofs.check.codes_sound.Reads as reads
-use Rattle.shelf_check.proofs.check.codes_sound.Lts as lts
-use Rattle.shelf.proofs.read.code.Reads as code-reads
-use Rattle.shelf_check.proofs.rules.code_rules.Reads as code-rules-reads
 
 code-requires : tie.Need-code-requires
 code-requires c κs = search needs

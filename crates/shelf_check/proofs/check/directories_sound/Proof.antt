@@ -1,17 +1,14 @@
--- `shelf::check::directories_sound` meets its contract: a law for each way out.
-use Rattle.shelf_check.proofs.Sections.{directories-sound, directories-unsound}
+-- `shelf_check::check::directories_sound` meets its contract: a law for each way out.
+use Rattle.shelf_check.proofs.Sections.{directories-tested, directories-sound, directories-unsound}
 use borrow.Author.Needs.{needs}
 use Rattle.shelf_check.proofs.check.directories_sound.Statement.{statement}
 use Rattle.shelf_check.proofs.check.directories_sound.Tie as tie
-use Rattle.shelf_check.proofs.check.directories_sound.Reads as reads
-use Rattle.shelf_check.proofs.check.directories_sound.Lts as lts
-use Rattle.shelf_check.proofs.check.each_directory.Reads as each-directory-reads
 
 sub-if1 : tie.Need-sub-if1
 sub-if1 c = search needs
 
 each-directory-requires : tie.Need-each-directory-requires
-each-directory-requires c κs = search needs
+each-directory-requires c κs = (c .before .before .before .before .before .pre, directories-tested _ _ _ (c .if1 .taken))
 
 returns : tie.Need-returns
 returns c = directories-sound _ _ (c .before .before .before .before .before .before .pre .is) _ (c .before .if1 .taken) (c .each-directory .ensures)

@@ -1,46 +1,63 @@
--- `shelf::check::each_directory` meets its contract: the invariant: the first d directories keep their rules.
+-- `shelf_check::check::each_directory` meets its contract. The invariant: the first d directories keep their rules, and the marks hold their
+-- keys.
 use Prim.Native.Nat.{_≤_, _-_}
-use mathlib.Core.Path.{_≡_}
-use mathlib.Core.Bool.{true}
+use mathlib.Core.Path.{_≡_, ap, _∙_}
+use mathlib.Core.Bool.{true, not}
 use native.Mathlib.Omega.{arith}
 use borrow.Author.Needs.{needs}
-use borrow.Author.Tests.{not-true, not-false}
 use Rattle.card.specs.Bytes.{every}
-use Rattle.card.specs.Layout.{directory}
-use Rattle.card.specs.Shelf.{all, directoryRules}
 use Rattle.shelf.proofs.Loops.{every-none, every-more, every-end, every-not}
+use Rattle.shelf_check.specs.Marks.{Holds}
+use Rattle.shelf_check.proofs.Keys.{holds-none}
+use Rattle.shelf_check.proofs.Sections.{directory-read, directory-inside}
+use Rattle.shelf_check.proofs.Directories.{directoryKeeps, directoryKeys, directory-fails, directory-decides, directory-small, directory-holds}
 use Rattle.shelf_check.proofs.check.each_directory.Statement.{statement}
 use Rattle.shelf_check.proofs.check.each_directory.Tie as tie
 
 abbrev Inv-loop : tie.InvT-loop
-Inv-loop image i n d₀ d = (d ≤ n) × (every d (λ k. all (directoryRules image k (directory image k))) ≡ true)
+Inv-loop image i n marks₀ d₀ marks d = (d ≤ n) × ((every d (directoryKeeps image) ≡ true) × Holds marks (directoryKeys image) d)
 
 abbrev μ-loop : tie.MeasureT-loop
-μ-loop image i n d₀ d = n - d
+μ-loop image i n marks₀ d₀ marks d = n - d
 
 loop-holds : tie.Need-loop-holds Inv-loop μ-loop
-loop-holds c = (search needs, every-none _)
+loop-holds c = (omega arith, (every-none _, holds-none _))
 
-directory-requires : tie.Need-directory-requires Inv-loop μ-loop
-directory-requires c κs = (c .before .before .before .pre, omega (arith, c .before .before .before .pre .directories))
+mul-directory-at : tie.Need-mul-directory-at Inv-loop μ-loop
+mul-directory-at c = omega (arith, c .before .before .before .pre .1 .0)
+
+add-directory-at : tie.Need-add-directory-at Inv-loop μ-loop
+add-directory-at c = omega (arith, c .before .before .before .before .pre .1 .0, c .before .before .before .before .pre .0 .tree)
+
+directory-at-requires : tie.Need-directory-at-requires Inv-loop μ-loop
+directory-at-requires c κs = directory-inside _ _ (c .before .before .before .before .pre .0 .is) _ (c .before .loop-test .taken) (c .before .before .before .before .pre .1 .1)
 
 directory-rules-requires : tie.Need-directory-rules-requires Inv-loop μ-loop
-directory-rules-requires c κs = (c .before .before .before .before .pre, omega (arith, c .before .before .before .before .pre .directories))
+directory-rules-requires c κs = c .before .before .before .before .before .pre .0
 
 returns : tie.Need-returns Inv-loop μ-loop
-returns c = every-not _ _ (c .before .before .before .before .loop .d) (omega arith) (cc (not-true (c .before .directory-rules .result) (c .if1 .taken)))
+returns c = every-not _ _ _ (c .before .before .before .before .loop-test .taken) (directory-fails _ _ _ _ (directory-read _ _ (c .before .before .before .before .before .before .before .pre .0 .is) _ _ (c .before .before .directory-at .ensures)) (c .before .directory-rules .ensures) (c .if1 .taken))
 
-add-d : tie.Need-add-d Inv-loop μ-loop
-add-d c = search needs
+directory-key-requires : tie.Need-directory-key-requires Inv-loop μ-loop
+directory-key-requires c κs = search needs
 
-loop-less : tie.Need-loop-less Inv-loop μ-loop
-loop-less c = search needs
-
-loop-again : tie.Need-loop-again Inv-loop μ-loop
-loop-again c = (omega arith, every-more _ _ (cc) (cc (not-false (c .before .directory-rules .result) (c .if1 .left))))
+meet-requires : tie.Need-meet-requires Inv-loop μ-loop
+meet-requires c κs = (directory-small _ _ _ _ (directory-read _ _ (c .before .before .before .before .before .before .before .before .before .pre .0 .is) _ _ (c .before .before .before .before .directory-at .ensures)) (c .before .before .before .directory-rules .ensures) _ (omega (arith, c .before .before .before .before .before .before .loop-test .taken, c .before .before .before .before .before .before .before .before .before .pre .1 .0)) (c .before .before .if1 .left) (c .directory-key .ensures), c .before .before .before .before .before .before .before .loop .inv .1 .1 .size)
 
 returns-2 : tie.Need-returns-2 Inv-loop μ-loop
-returns-2 c = every-end _ _ (c .before .loop .d) (omega arith) (omega arith) (cc)
+returns-2 c = every-not _ _ _ (c .before .before .before .before .before .before .before .before .loop-test .taken) (directory-decides _ _ _ _ (directory-read _ _ (c .before .before .before .before .before .before .before .before .before .before .before .pre .0 .is) _ _ (c .before .before .before .before .before .before .directory-at .ensures)) (c .before .before .before .before .before .directory-rules .ensures) _ _ (omega (arith, c .before .before .before .before .before .before .before .before .loop-test .taken, c .before .before .before .before .before .before .before .before .before .before .before .pre .1 .0)) (c .before .before .before .before .before .before .before .before .before .loop .inv .1 .0) (c .before .before .before .before .if1 .left) (c .before .before .before .before .before .before .before .before .before .loop .inv .1 .1) (c .before .before .directory-key .ensures) (c .before .meet .ensures .0) ∙ ap not (c .if2 .taken))
+
+add-d : tie.Need-add-d Inv-loop μ-loop
+add-d c = omega (arith, c .before .before .before .before .before .before .before .before .loop-test .taken, c .before .before .before .before .before .before .before .before .before .before .before .pre .1 .0)
+
+loop-less : tie.Need-loop-less Inv-loop μ-loop
+loop-less c = omega (arith, c .before .before .before .before .before .before .before .before .loop-test .taken)
+
+loop-again : tie.Need-loop-again Inv-loop μ-loop
+loop-again c = (omega (arith, c .before .before .before .before .before .before .before .before .loop-test .taken), (every-more _ _ (c .before .before .before .before .before .before .before .before .before .loop .inv .1 .0) (directory-decides _ _ _ _ (directory-read _ _ (c .before .before .before .before .before .before .before .before .before .before .before .pre .0 .is) _ _ (c .before .before .before .before .before .before .directory-at .ensures)) (c .before .before .before .before .before .directory-rules .ensures) _ _ (omega (arith, c .before .before .before .before .before .before .before .before .loop-test .taken, c .before .before .before .before .before .before .before .before .before .before .before .pre .1 .0)) (c .before .before .before .before .before .before .before .before .before .loop .inv .1 .0) (c .before .before .before .before .if1 .left) (c .before .before .before .before .before .before .before .before .before .loop .inv .1 .1) (c .before .before .directory-key .ensures) (c .before .meet .ensures .0) ∙ ap not (c .if2 .left)), directory-holds _ _ _ _ (directory-read _ _ (c .before .before .before .before .before .before .before .before .before .before .before .pre .0 .is) _ _ (c .before .before .before .before .before .before .directory-at .ensures)) (c .before .before .before .before .before .directory-rules .ensures) _ (c .before .before .before .before .before .before .before .before .before .loop .inv .1 .1) (c .before .before .directory-key .ensures) (c .before .meet .ensures .1)))
+
+returns-3 : tie.Need-returns-3 Inv-loop μ-loop
+returns-3 c = every-end _ _ _ (c .before .loop .inv .0) (c .loop-test .left) (c .before .loop .inv .1 .0)
 
 pub each-directory-spec : {M : Type 1} → statement M
 each-directory-spec =
@@ -49,10 +66,15 @@ each-directory-spec =
     Inv-loop
     μ-loop
     loop-holds
-    directory-requires
+    mul-directory-at
+    add-directory-at
+    directory-at-requires
     directory-rules-requires
     returns
+    directory-key-requires
+    meet-requires
+    returns-2
     add-d
     loop-less
     loop-again
-    returns-2)
+    returns-3)

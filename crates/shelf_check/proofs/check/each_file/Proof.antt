@@ -1,46 +1,71 @@
--- `shelf::check::each_file` meets its contract: the invariant: the first f files keep their rules.
-use Prim.Native.Nat.{_≤_, _-_}
-use mathlib.Core.Path.{_≡_}
-use mathlib.Core.Bool.{true}
+-- `shelf_check::check::each_file` meets its contract. The invariant: the first f files keep their rules, the marks hold their keys, and
+-- the sum is that of their sizes, at most 65535 each.
+use Prim.Native.Nat.{_≤_, _-_, _*_}
+use mathlib.Core.Path.{_≡_, ap, _∙_}
+use mathlib.Core.Bool.{true, not}
 use native.Mathlib.Omega.{arith}
 use borrow.Author.Needs.{needs}
-use borrow.Author.Tests.{not-true, not-false}
 use Rattle.card.specs.Bytes.{every}
-use Rattle.card.specs.Layout.{file}
-use Rattle.card.specs.Shelf.{all, fileRules}
-use Rattle.shelf.proofs.Loops.{every-none, every-more, every-end, every-not}
+use Rattle.card.specs.Layout.{sizes}
+use Rattle.card.specs.declared.Entry.{Entry}
+use Rattle.shelf.proofs.Loops.{every-none, every-more}
+use Rattle.shelf_check.specs.Marks.{Holds}
+use Rattle.shelf_check.proofs.Keys.{holds-none}
+use Rattle.shelf_check.proofs.Sections.{few, file-read, file-inside, sizes-none, sizes-more, tally-fails, tally-sum}
+use Rattle.shelf_check.proofs.Files.{fileKeeps, fileKeys, file-fails, file-decides, file-small, file-holds}
 use Rattle.shelf_check.proofs.check.each_file.Statement.{statement}
 use Rattle.shelf_check.proofs.check.each_file.Tie as tie
 
 abbrev Inv-loop : tie.InvT-loop
-Inv-loop image i n f₀ f = (f ≤ n) × (every f (λ k. all (fileRules image k (file image k))) ≡ true)
+Inv-loop image i n marks₀ sum₀ f₀ marks sum f = (f ≤ n) × ((every f (fileKeeps image) ≡ true) × (Holds marks (fileKeys image) f × ((sum ≤ 65535 * f) × (sum ≡ sizes image f))))
 
 abbrev μ-loop : tie.MeasureT-loop
-μ-loop image i n f₀ f = n - f
+μ-loop image i n marks₀ sum₀ f₀ marks sum f = n - f
 
 loop-holds : tie.Need-loop-holds Inv-loop μ-loop
-loop-holds c = (search needs, every-none _)
+loop-holds c = (omega arith, (every-none _, (holds-none _, (omega arith, sizes-none _))))
 
-file-requires : tie.Need-file-requires Inv-loop μ-loop
-file-requires c κs = (c .before .before .before .pre, omega (arith, c .before .before .before .pre .files))
+mul-file-at : tie.Need-mul-file-at Inv-loop μ-loop
+mul-file-at c = omega (arith, c .before .before .before .pre .0 .files)
+
+add-file-at : tie.Need-add-file-at Inv-loop μ-loop
+add-file-at c = omega (arith, c .before .before .before .before .pre .0 .files, c .before .before .before .before .pre .0 .table)
+
+file-at-requires : tie.Need-file-at-requires Inv-loop μ-loop
+file-at-requires c κs = file-inside _ _ (c .before .before .before .before .pre .0 .is) _ (c .before .loop-test .taken) (c .before .before .before .before .pre .1 .1)
 
 file-rules-requires : tie.Need-file-rules-requires Inv-loop μ-loop
-file-rules-requires c κs = (c .before .before .before .before .pre, omega (arith, c .before .before .before .before .pre .files))
+file-rules-requires c κs = c .before .before .before .before .before .pre .0
 
 returns : tie.Need-returns Inv-loop μ-loop
-returns c = every-not _ _ (c .before .before .before .before .loop .f) (omega arith) (cc (not-true (c .before .file-rules .result) (c .if1 .taken)))
+returns c = tally-fails _ _ _ (c .before .before .before .before .loop-test .taken) (file-fails _ (few _ _ (c .before .before .before .before .before .before .before .pre .0 .is) (c .before .before .before .before .before .before .before .pre .1 .0)) _ _ _ (file-read _ _ (c .before .before .before .before .before .before .before .pre .0 .is) _ _ (c .before .before .file-at .ensures)) (c .before .file-rules .ensures) (c .if1 .taken))
 
-add-f : tie.Need-add-f Inv-loop μ-loop
-add-f c = search needs
+file-key-requires : tie.Need-file-key-requires Inv-loop μ-loop
+file-key-requires c κs = search needs
 
-loop-less : tie.Need-loop-less Inv-loop μ-loop
-loop-less c = search needs
-
-loop-again : tie.Need-loop-again Inv-loop μ-loop
-loop-again c = (omega arith, every-more _ _ (cc) (cc (not-false (c .before .file-rules .result) (c .if1 .left))))
+meet-requires : tie.Need-meet-requires Inv-loop μ-loop
+meet-requires c κs = (file-small _ (few _ _ (c .before .before .before .before .before .before .before .before .before .pre .0 .is) (c .before .before .before .before .before .before .before .before .before .pre .1 .0)) _ _ _ (file-read _ _ (c .before .before .before .before .before .before .before .before .before .pre .0 .is) _ _ (c .before .before .before .before .file-at .ensures)) (c .before .before .before .file-rules .ensures) _ (c .before .before .if1 .left) (c .file-key .ensures), c .before .before .before .before .before .before .before .loop .inv .1 .1 .0 .size)
 
 returns-2 : tie.Need-returns-2 Inv-loop μ-loop
-returns-2 c = every-end _ _ (c .before .loop .f) (omega arith) (omega arith) (cc)
+returns-2 c = tally-fails _ _ _ (c .before .before .before .before .before .before .before .before .loop-test .taken) (file-decides _ (few _ _ (c .before .before .before .before .before .before .before .before .before .before .before .pre .0 .is) (c .before .before .before .before .before .before .before .before .before .before .before .pre .1 .0)) _ _ _ (file-read _ _ (c .before .before .before .before .before .before .before .before .before .before .before .pre .0 .is) _ _ (c .before .before .before .before .before .before .file-at .ensures)) (c .before .before .before .before .before .file-rules .ensures) _ _ (omega (arith, c .before .before .before .before .before .before .before .before .loop-test .taken, c .before .before .before .before .before .before .before .before .before .before .before .pre .0 .files)) (c .before .before .before .before .before .before .before .before .before .loop .inv .1 .0) (c .before .before .before .before .if1 .left) (c .before .before .before .before .before .before .before .before .before .loop .inv .1 .1 .0) (c .before .before .file-key .ensures) (c .before .meet .ensures .0) ∙ ap not (c .if2 .taken))
+
+cast-sum : tie.Need-cast-sum Inv-loop μ-loop
+cast-sum c = omega arith
+
+add-sum : tie.Need-add-sum Inv-loop μ-loop
+add-sum c = omega (arith, c .before .before .before .before .before .before .before .before .before .loop-test .taken, c .before .before .before .before .before .before .before .before .before .before .before .before .pre .0 .files, c .before .before .before .before .before .before .before .before .before .before .loop .inv .1 .1 .1 .0)
+
+add-f : tie.Need-add-f Inv-loop μ-loop
+add-f c = omega (arith, c .before .before .before .before .before .before .before .before .before .loop-test .taken, c .before .before .before .before .before .before .before .before .before .before .before .before .pre .0 .files)
+
+loop-less : tie.Need-loop-less Inv-loop μ-loop
+loop-less c = omega (arith, c .before .before .before .before .before .before .before .before .before .loop-test .taken)
+
+loop-again : tie.Need-loop-again Inv-loop μ-loop
+loop-again c = (omega (arith, c .before .before .before .before .before .before .before .before .before .loop-test .taken), (every-more _ _ (c .before .before .before .before .before .before .before .before .before .before .loop .inv .1 .0) (file-decides _ (few _ _ (c .before .before .before .before .before .before .before .before .before .before .before .before .pre .0 .is) (c .before .before .before .before .before .before .before .before .before .before .before .before .pre .1 .0)) _ _ _ (file-read _ _ (c .before .before .before .before .before .before .before .before .before .before .before .before .pre .0 .is) _ _ (c .before .before .before .before .before .before .before .file-at .ensures)) (c .before .before .before .before .before .before .file-rules .ensures) _ _ (omega (arith, c .before .before .before .before .before .before .before .before .before .loop-test .taken, c .before .before .before .before .before .before .before .before .before .before .before .before .pre .0 .files)) (c .before .before .before .before .before .before .before .before .before .before .loop .inv .1 .0) (c .before .before .before .before .before .if1 .left) (c .before .before .before .before .before .before .before .before .before .before .loop .inv .1 .1 .0) (c .before .before .before .file-key .ensures) (c .before .before .meet .ensures .0) ∙ ap not (c .before .if2 .left)), (file-holds _ (few _ _ (c .before .before .before .before .before .before .before .before .before .before .before .before .pre .0 .is) (c .before .before .before .before .before .before .before .before .before .before .before .before .pre .1 .0)) _ _ _ (file-read _ _ (c .before .before .before .before .before .before .before .before .before .before .before .before .pre .0 .is) _ _ (c .before .before .before .before .before .before .before .file-at .ensures)) (c .before .before .before .before .before .before .file-rules .ensures) _ (c .before .before .before .before .before .before .before .before .before .before .loop .inv .1 .1 .0) (c .before .before .before .file-key .ensures) (c .before .before .meet .ensures .1), (omega (arith, c .before .before .before .before .before .before .before .before .before .before .loop .inv .1 .1 .1 .0), sizes-more _ _ _ _ (c .before .before .before .before .before .before .before .before .before .before .loop .inv .1 .1 .1 .1) (ap (λ (x : Entry). x .size) (file-read _ _ (c .before .before .before .before .before .before .before .before .before .before .before .before .pre .0 .is) _ _ (c .before .before .before .before .before .before .before .file-at .ensures)))))))
+
+returns-3 : tie.Need-returns-3 Inv-loop μ-loop
+returns-3 c = tally-sum _ _ _ _ (c .before .loop .inv .0) (c .loop-test .left) (c .before .loop .inv .1 .0) (c .before .loop .inv .1 .1 .1 .1)
 
 pub each-file-spec : {M : Type 1} → statement M
 each-file-spec =
@@ -49,10 +74,17 @@ each-file-spec =
     Inv-loop
     μ-loop
     loop-holds
-    file-requires
+    mul-file-at
+    add-file-at
+    file-at-requires
     file-rules-requires
     returns
+    file-key-requires
+    meet-requires
+    returns-2
+    cast-sum
+    add-sum
     add-f
     loop-less
     loop-again
-    returns-2)
+    returns-3)

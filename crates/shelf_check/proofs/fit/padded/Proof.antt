@@ -1,4 +1,4 @@
--- `shelf::fit::padded` meets its contract: the invariant: what is left to test is what was to test.
+-- `shelf_check::fit::padded` meets its contract: the invariant: what is left to test is what was to test.
 use Prim.Native.Nat.{_≤_, _-_}
 use mathlib.Core.Path.{_≡_, refl, _∙_}
 use native.Mathlib.Omega.{arith}

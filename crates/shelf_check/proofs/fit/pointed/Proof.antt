@@ -1,4 +1,4 @@
--- `shelf::fit::pointed` meets its contract: by the two cases.
+-- `shelf_check::fit::pointed` meets its contract: by the two cases.
 use Rattle.shelf_check.proofs.Fitting.{pointed-nowhere, pointed-at}
 use borrow.Author.Needs.{needs}
 use Rattle.shelf_check.proofs.fit.pointed.Statement.{statement}

@@ -1,4 +1,4 @@
--- `shelf::fit::stands` meets its contract: a law for each way out.
+-- `shelf_check::fit::stands` meets its contract: a law for each way out.
 use Rattle.shelf_check.proofs.Fitting.{stands-nowhere, stands-astray, stands-on, stands-off}
 use borrow.Author.Needs.{needs}
 use Rattle.shelf_check.proofs.fit.stands.Statement.{statement}

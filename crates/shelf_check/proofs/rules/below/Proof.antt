@@ -1,4 +1,4 @@
--- `shelf::rules::below` meets its contract: by computation.
+-- `shelf_check::rules::below` meets its contract: by computation.
 use mathlib.Core.Path.{refl}
 use Rattle.card.specs.Shelf.{below}
 use Rattle.shelf_check.proofs.rules.below.Statement.{statement}

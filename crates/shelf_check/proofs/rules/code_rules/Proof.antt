@@ -1,4 +1,4 @@
--- `shelf::rules::code_rules` meets its contract: the tests are those of the definition, in its order.
+-- `shelf_check::rules::code_rules` meets its contract: the tests are those of the definition, in its order.
 use mathlib.Core.Bool.{and-true, and-assoc}
 use Rattle.card.specs.Shelf.{all, codeRules}
 use borrow.Author.Needs.{needs}

@@ -1,4 +1,4 @@
--- `shelf::rules::size_rule` meets its contract: one law, from the number of records and the remainder.
+-- `shelf_check::rules::size_rule` meets its contract: one law, from the number of records and the remainder.
 use Rattle.shelf_check.proofs.OneEntry.{records-rule}
 use borrow.Author.Needs.{needs}
 use Rattle.shelf_check.proofs.rules.size_rule.Statement.{statement}

@@ -1,4 +1,4 @@
--- `shelf::rules::top_rule` meets its contract: by the two cases.
+-- `shelf_check::rules::top_rule` meets its contract: by the two cases.
 use Rattle.shelf_check.proofs.OneEntry.{top-cyclic, top-other}
 use borrow.Author.Needs.{needs}
 use Rattle.shelf_check.proofs.rules.top_rule.Statement.{statement}

@@ -1,4 +1,4 @@
--- `shelf::rules::within` meets its contract: by the three cases.
+-- `shelf_check::rules::within` meets its contract: by the three cases.
 use Rattle.shelf_check.proofs.OneEntry.{within-master, within-dedicated, within-other}
 use Rattle.shelf_check.proofs.rules.within.Statement.{statement}
 use Rattle.shelf_check.proofs.rules.within.Tie as tie

@@ -1,0 +1,50 @@
+// Entries of a section that is whole: no byte's place is tested.
+ghost use mathlib.Core.Path.{_≡_};
+ghost use Prim.Native.Nat.{_+_, _*_, _≤_};
+ghost use lib.ListN.{length};
+ghost use Rattle.card.specs.Layout.{directoryEntry, fileEntry};
+use card::Directory;
+use card::Entry;
+
+// Two bytes, high byte first.
+fn join(high: u8, low: u8) -> u16
+    ensures { λ r. ⌜ r ≡ high * 256 + low ⌝ }
+{
+    (high as u16) * 256 + (low as u16)
+}
+
+// The directory's entry at a place where all of it stands.
+pub fn directory_at(l: &[u8], at: usize) -> Directory
+    requires { ⌜ at + 8 ≤ length (now l) ⌝ }
+    ensures { λ r. ⌜ r ≡ directoryEntry (now (l .entry)) at ⌝ }
+{
+    Directory {
+        identifier: join(l[at], l[at + 1]),
+        parent: l[at + 2],
+        characteristics: l[at + 3],
+        memory: join(l[at + 4], l[at + 5]),
+        codes: l[at + 6],
+        spare: l[at + 7],
+    }
+}
+
+// The file's entry at a place where all of it stands.
+pub fn file_at(l: &[u8], at: usize) -> Entry
+    requires { ⌜ at + 14 ≤ length (now l) ⌝ }
+    ensures { λ r. ⌜ r ≡ fileEntry (now (l .entry)) at ⌝ }
+{
+    Entry {
+        identifier: join(l[at], l[at + 1]),
+        home: l[at + 2],
+        structure: l[at + 3],
+        width: l[at + 4],
+        increase: l[at + 5],
+        access1: l[at + 6],
+        access2: l[at + 7],
+        access3: l[at + 8],
+        status: l[at + 9],
+        size: join(l[at + 10], l[at + 11]),
+        top: l[at + 12],
+        spare: l[at + 13],
+    }
+}
