@@ -60,22 +60,15 @@ fn read_one(list: &mut [u8], at: usize) -> Place
     requires { ⌜ at ≤ length (now list) ⌝ }
     ensures { λ r. ⌜ r .end ≤ length (now (list .entry)) ⌝ }
 {
-    let count = input::read_count();
-    if !count.came {
-        return Place {
-            came: false,
-            end: at,
-        };
+    let p = read_to(list, at, 2);
+    if !p.came {
+        return p;
     }
     if list.len() - at < 2 {
-        return Place {
-            came: false,
-            end: at,
-        };
+        return p;
     }
-    list[at] = (count.value / 256 % 256) as u8;
-    list[at + 1] = (count.value % 256) as u8;
-    read_to(list, at + 2, count.value)
+    let n = input::join(list[at], list[at + 1]);
+    read_to(list, at + 2, n)
 }
 
 // Reads n commands.

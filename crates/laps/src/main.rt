@@ -16,7 +16,7 @@ use streams::short_input;
 
 // The sum so far and the session.
 struct Lap {
-    sum: u64,
+    sum: u32,
     session: Session,
 }
 
@@ -50,15 +50,25 @@ fn play_list(known: bool, image: &mut [u8], lap: Lap, list: &[u8], room: &mut [u
     t
 }
 
+// Whether a lap's commands may rely on a test at its start.
+fn start(once: bool, image: &[u8], session: Session) -> bool
+    ensures { λ r. ⌜ (r ≡ true → Ready (now (image .entry)) session) ⌝ }
+{
+    if once {
+        return runs::tested(image, session);
+    }
+    false
+}
+
 // All laps.
-fn play_laps(once: bool, laps: usize, image: &mut [u8], list: &[u8]) -> u64 {
+fn play_laps(once: bool, laps: usize, image: &mut [u8], list: &[u8]) -> u32 {
     let mut room = [0u8; 258];
     let session = runs::reset();
     let mut t = Lap { sum: 0, session };
     let mut k = 0;
     while k < laps {
         let session = t.session;
-        let known = once && runs::tested(image, session);
+        let known = start(once, image, session);
         t = play_list(known, image, t, list, &mut room);
         k += 1;
     }
@@ -66,7 +76,7 @@ fn play_laps(once: bool, laps: usize, image: &mut [u8], list: &[u8]) -> u64 {
 }
 
 // The line of both sums.
-fn tell(answers: u64, image: u64) {
+fn tell(answers: u32, image: u32) {
     let mut text = [0u8; 64];
     let n = sums::spell(&mut text, answers, image);
     streams::write(&text[..n]);

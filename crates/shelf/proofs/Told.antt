@@ -11,7 +11,6 @@ use Rattle.shelf.specs.Reads.{Head, Counters}
 use Rattle.card.specs.declared.Index.{Index}
 use Rattle.card.specs.declared.Code.{Code}
 use Rattle.card.specs.declared.Directory.{Directory}
-use Rattle.card.specs.declared.Entry.{Entry}
 
 pub type-master : (d : ℕ) → d ≡ 0 → 1 ≡ directoryType d
 unfolding directoryType
@@ -26,14 +25,8 @@ module _ (h : List ℕ) (n : ℕ) (r t : Bool) where
   pub leads-at : (here up id : ℕ) (e : Directory) → e ≡ directory h n → r ≡ leads here up id n e → r ≡ t → leads here up id n (directory h n) ≡ t
   leads-at here up id e is k m = ap (λ (x : Directory). leads here up id n x) (sym is) ∙ sym k ∙ m
 
-  pub named-at : (here id : ℕ) (e : Entry) → e ≡ file h n → r ≡ named here id e → r ≡ t → named here id (file h n) ≡ t
-  named-at here id e is k m = ap (λ (x : Entry). named here id x) (sym is) ∙ sym k ∙ m
-
 pub child-at : (h : List ℕ) (d c b : ℕ) (e : Directory) (r : Bool) → e ≡ directory h c → r ≡ child d c e → b ≡ bit r → b ≡ bit (child d c (directory h c))
 child-at h d c b e r is k m = m ∙ ap bit k ∙ ap (λ (x : Directory). bit (child d c x)) is
-
-pub member-at : (h : List ℕ) (d f b : ℕ) (e : Entry) (r : Bool) → e ≡ file h f → r ≡ member d e → b ≡ bit r → b ≡ bit (member d (file h f))
-member-at h d f b e r is k m = m ∙ ap bit k ∙ ap (λ (x : Entry). bit (member d x)) is
 
 module _ (h : List ℕ) (i : Index) (is : i ≡ index h) where
   pub children-are : (d r : ℕ) → r ≡ howMany (i .directories) (λ c. child d c (directory h c)) → r ≡ children h d

@@ -4,7 +4,7 @@ ghost use Prim.Native.Nat.{_<_, _/_, _%_};
 ghost use Rattle.card.specs.Layout.{directory, records};
 ghost use Rattle.card.specs.Shelf.{all, codeRules, below, within, recordsRule, topRule};
 ghost use Rattle.shelf.specs.Reads.{Indexed};
-ghost use Rattle.shelf_check.specs.Apart.{ownDirectory, ownFile, directoryKey, fileKey};
+ghost use Rattle.shelf_check.specs.Apart.{ownDirectory, ownFile, homeRules, shapeRules, byteRules, directoryKey, fileKey};
 use card::Code;
 use card::Directory;
 use card::Entry;
@@ -114,24 +114,55 @@ pub fn size_rule(e: Entry) -> bool
     (0 < e.width) & (remainder(size, width) == 0) & (0 < n) & (n < 255)
 }
 
+// The increase byte, status, access and top.
+fn byte_rules(e: Entry) -> bool
+    ensures { λ r. ⌜ r ≡ byteRules e ⌝ }
+{
+    let cyclic = e.structure == 3;
+    ((e.increase == 0) | ((e.increase == 0x40) & cyclic & (e.width == 3)))
+        & ((e.status % 4 <= 1) & (e.status < 8))
+        & (e.access2 % 16 == 0)
+        & top_rule(e)
+}
+
+// A file's own bytes from its size on. A division is made only where there are records, and once.
+fn shape_rules(e: Entry) -> bool
+    ensures { λ r. ⌜ r ≡ shapeRules e ⌝ }
+{
+    if e.structure == 0 {
+        return ((0 < e.size) & (e.width == 0)) & byte_rules(e);
+    }
+    if e.width == 0 {
+        return false;
+    }
+    if !size_rule(e) {
+        return false;
+    }
+    byte_rules(e)
+}
+
+// A file's directory, structure, zero and identifier.
+fn home_rules(l: &[u8], i: Index, e: Entry) -> bool
+    requires { ⌜ Indexed (now l) i ⌝ }
+    ensures { λ r. ⌜ r ≡ homeRules (now (l .entry)) e ⌝ }
+{
+    let up = first_byte(l, i, e.home);
+    let plain = e.structure == 0;
+    ((e.home as usize) < i.directories)
+        & (plain | (e.structure == 1) | (e.structure == 3))
+        & (e.spare == 0)
+        & (e.identifier / 256 == within(up))
+}
+
 // A file, whose entry is e, but for twins.
 pub fn file_rules(l: &[u8], i: Index, e: Entry) -> bool
     requires { ⌜ Indexed (now l) i ⌝ }
     ensures { λ r. ⌜ r ≡ ownFile (now (l .entry)) e ⌝ }
 {
-    let up = first_byte(l, i, e.home);
-    let plain = e.structure == 0;
-    let cyclic = e.structure == 3;
-    ((e.home as usize) < i.directories)
-        & (plain | (e.structure == 1) | cyclic)
-        & (e.spare == 0)
-        & (e.identifier / 256 == within(up))
-        & (!plain | ((0 < e.size) & (e.width == 0)))
-        & (plain | size_rule(e))
-        & ((e.increase == 0) | ((e.increase == 0x40) & cyclic & (e.width == 3)))
-        & ((e.status % 4 <= 1) & (e.status < 8))
-        & (e.access2 % 16 == 0)
-        & top_rule(e)
+    if !home_rules(l, i, e) {
+        return false;
+    }
+    shape_rules(e)
 }
 
 // What tells a file from the others.

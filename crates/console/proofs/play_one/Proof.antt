@@ -1,7 +1,7 @@
 -- `console::play_one` meets its contract: each part lies in its slice, the response in the room that it was laid in.
 use borrow.Author.Needs.{needs}
 use Rattle.io.proofs.Counting.{front}
-use Rattle.console.proofs.Responses.{within}
+use Rattle.runs.proofs.Responses.{within}
 use Rattle.console.proofs.play_one.Statement.{statement}
 use Rattle.console.proofs.play_one.Tie as tie
 

@@ -1,13 +1,13 @@
 -- `shelf::tell::members` meets its contract: the invariant: found counts the members among the first f files.
 use Prim.Native.Nat.{_≤_, _-_}
-use mathlib.Core.Path.{_≡_}
+use mathlib.Core.Path.{_≡_, ap, _∙_}
 use native.Mathlib.Omega.{arith}
 use borrow.Author.Needs.{needs}
-use Rattle.card.specs.Bytes.{howMany}
+use Rattle.card.specs.Bytes.{bit, howMany}
 use Rattle.card.specs.Layout.{file}
 use Rattle.card.specs.Select.{member}
 use Rattle.shelf.proofs.Loops.{count-none, count-more, count-end}
-use Rattle.shelf.proofs.Told.{member-at, members-are}
+use Rattle.shelf.proofs.Told.{members-are}
 use Rattle.shelf.proofs.tell.members.Statement.{statement}
 use Rattle.shelf.proofs.tell.members.Tie as tie
 
@@ -20,17 +20,14 @@ abbrev μ-loop : tie.MeasureT-loop
 loop-holds : tie.Need-loop-holds Inv-loop μ-loop
 loop-holds c = (search needs, (search needs, count-none _))
 
-file-requires : tie.Need-file-requires Inv-loop μ-loop
-file-requires c κs = (c .before .before .before .pre, omega (arith, c .before .before .before .pre .files))
-
 member-requires : tie.Need-member-requires Inv-loop μ-loop
-member-requires c κs = search needs
+member-requires c κs = (c .before .before .before .pre, omega (arith, c .before .before .before .pre .files))
 
 bit-requires : tie.Need-bit-requires Inv-loop μ-loop
 bit-requires c κs = search needs
 
 add-found : tie.Need-add-found Inv-loop μ-loop
-add-found c = omega (arith, c .bit .ensures .1, c .before .before .before .before .before .before .pre .files)
+add-found c = omega (arith, c .bit .ensures .1, c .before .before .before .before .before .pre .files)
 
 add-f : tie.Need-add-f Inv-loop μ-loop
 add-f c = search needs
@@ -39,7 +36,7 @@ loop-less : tie.Need-loop-less Inv-loop μ-loop
 loop-less c = search needs
 
 loop-again : tie.Need-loop-again Inv-loop μ-loop
-loop-again c = (omega (arith, c .before .before .before .loop-test .taken), (omega (arith, c .bit .ensures .1, c .before .before .before .before .loop .inv .1 .0), count-more _ _ _ _ (c .before .before .before .before .loop .inv .1 .1) (member-at _ _ _ _ _ _ (c .before .before .file .ensures) (c .before .member .ensures) (c .bit .ensures .0))))
+loop-again c = (omega (arith, c .before .before .loop-test .taken), (omega (arith, c .bit .ensures .1, c .before .before .before .loop .inv .1 .0), count-more _ _ _ _ (c .before .before .before .loop .inv .1 .1) (c .bit .ensures .0 ∙ ap bit (c .before .member .ensures))))
 
 returns : tie.Need-returns Inv-loop μ-loop
 returns c = record { is = members-are _ _ (c .before .before .before .pre .is) _ _ (count-end _ _ _ _ (c .before .loop .inv .0) (c .loop-test .left) (c .before .loop .inv .1 .1)); few = omega (arith, c .before .loop .inv .0, c .before .loop .inv .1 .0) }
@@ -51,7 +48,6 @@ members-spec =
     Inv-loop
     μ-loop
     loop-holds
-    file-requires
     member-requires
     bit-requires
     add-found

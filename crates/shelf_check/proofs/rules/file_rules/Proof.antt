@@ -1,34 +1,20 @@
--- `shelf_check::rules::file_rules` meets its contract: one law, from what each call says.
-use Rattle.shelf_check.proofs.OneEntry.{file-rules}
+-- `shelf_check::rules::file_rules` meets its contract: a law for each way out.
+use Rattle.shelf_check.proofs.OneEntry.{own-not, own-file}
 use borrow.Author.Needs.{needs}
 use Rattle.shelf_check.proofs.rules.file_rules.Statement.{statement}
 use Rattle.shelf_check.proofs.rules.file_rules.Tie as tie
 
-first-byte-requires : tie.Need-first-byte-requires
-first-byte-requires c κs = search needs
-
-cast-result : tie.Need-cast-result
-cast-result c = search needs
-
-within-requires : tie.Need-within-requires
-within-requires c κs = search needs
-
-size-rule-requires : tie.Need-size-rule-requires
-size-rule-requires c κs = search needs
-
-top-rule-requires : tie.Need-top-rule-requires
-top-rule-requires c κs = search needs
+home-rules-requires : tie.Need-home-rules-requires
+home-rules-requires c κs = search needs
 
 returns : tie.Need-returns
-returns c = file-rules _ _ _ _ _ _ _ (c .before .before .before .before .before .before .before .before .before .before .before .before .before .before .before .before .before .before .before .before .pre .is) (c .before .before .before .before .before .before .before .before .before .before .before .before .before .before .before .before .before .before .first-byte .ensures) (c .before .before .before .before .before .before .before .before .before .before .within .ensures) (c .before .before .before .before .before .before .before .size-rule .ensures) (c .top-rule .ensures)
+returns c = own-not _ _ _ (c .before .home-rules .ensures) (c .if1 .taken)
+
+shape-rules-requires : tie.Need-shape-rules-requires
+shape-rules-requires c κs = search needs
+
+returns-2 : tie.Need-returns-2
+returns-2 c = own-file _ _ _ _ (c .before .before .home-rules .ensures) (c .before .if1 .left) (c .shape-rules .ensures)
 
 pub file-rules-spec : {M : Type 1} → statement M
-file-rules-spec =
-    tie.close
-    (tie.spec
-    first-byte-requires
-    cast-result
-    within-requires
-    size-rule-requires
-    top-rule-requires
-    returns)
+file-rules-spec = tie.close (tie.spec home-rules-requires returns shape-rules-requires returns-2)

@@ -1,0 +1,25 @@
+-- `shelf::read::file_identifier` meets its contract: the word stands where the index says.
+use Prim.Native.Nat.{_+_, _*_}
+use mathlib.Core.Path.{ap, _∙_}
+use Rattle.card.specs.Bytes.{word}
+use Rattle.card.specs.Layout.{fileEntry, file}
+use Rattle.card.specs.declared.Index.{Index}
+use borrow.Author.Needs.{needs}
+use Rattle.shelf.proofs.read.file_identifier.Statement.{statement}
+use Rattle.shelf.proofs.read.file_identifier.Tie as tie
+
+mul-word-at : tie.Need-mul-word-at
+mul-word-at c = search needs
+
+add-word-at : tie.Need-add-word-at
+add-word-at c = search needs
+
+word-at-requires : tie.Need-word-at-requires
+word-at-requires c κs = search needs
+
+returns : tie.Need-returns
+unfolding file fileEntry
+returns c = c .word-at .ensures ∙ ap (λ (x : Index). word (c .before .before .before .args .l .now) (x .table + 14 * c .before .before .before .args .f)) (c .before .before .before .pre .0 .is)
+
+pub file-identifier-spec : {M : Type 1} → statement M
+file-identifier-spec = tie.close (tie.spec mul-word-at add-word-at word-at-requires returns)
