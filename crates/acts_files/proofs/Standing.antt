@@ -76,6 +76,11 @@ module _ {l : List ℕ} {s : Session} (r : Ready l s) (f : ℕ) (c : s .current 
   pub start-inside : start l f ≤ length l
   start-inside = let w = card.inside l (card.image l (r .image)) f among in omega arith
 
+  -- the entries before the file's own are all there
+  pub entries-inside : (i : Index) → i ≡ index l → i .table + 14 * f ≤ length l
+  unfolding start
+  entries-inside i is = let z = placed l in let n = among in let w = start-inside in rw is (omega arith)
+
   -- what was read of the current file
   module _ (i : Index) (is : i ≡ index l) where
     pub here : (rights′ : Rights) (e : Entry) (start′ end : ℕ)

@@ -3,11 +3,14 @@ use card::Entry;
 use card::Index;
 use card::Rights;
 use card::Session;
+use commands::parts::wide;
 use commands::parts::wide_word;
 use shelf::read;
 ghost use mathlib.Core.Path.{_≡_};
-ghost use Prim.Native.Nat.{_<_};
+ghost use Prim.Native.Nat.{_+_, _*_, _<_, _≤_};
+ghost use lib.ListN.{length};
 ghost use Rattle.card.specs.Access.{rights};
+ghost use Rattle.card.specs.Bytes.{word};
 ghost use Rattle.card.specs.Layout.{start};
 ghost use Rattle.card.specs.declared.Current.the-variants.{File};
 ghost use Rattle.shelf.specs.Reads.{Indexed};
@@ -41,17 +44,25 @@ fn rights(l: &[u8], s: Session) -> Rights
     }
 }
 
+// Two bytes that are there.
+fn pair(l: &[u8], at: usize) -> usize
+    requires { ⌜ at + 2 ≤ length (now l) ⌝ }
+    ensures { λ r. ⌜ (r ≡ word (now (l .entry)) at) × (r < 65536) ⌝ }
+{
+    wide(l[at]) * 256 + wide(l[at + 1])
+}
+
 // Where the bytes of file f start: after the bytes of the files before it.
 fn start(l: &[u8], i: Index, f: usize) -> usize
     requires { ⌜ Indexed (now l) i ⌝ }
-    requires { ⌜ f < 65536 ⌝ }
+    requires { ⌜ (f < 65536) × (i .table + 14 * f ≤ length (now l)) ⌝ }
     ensures { λ r. ⌜ r ≡ start (now (l .entry)) f ⌝ }
 {
     let table = i.table;
     let mut sum: usize = 0;
     let mut g = 0;
     while g < f {
-        sum += wide_word(read::word_at(l, table + 14 * g + 10));
+        sum += pair(l, table + 14 * g + 10);
         g += 1;
     }
     i.store + sum

@@ -15,7 +15,7 @@ fn least(a: usize, b: usize) -> usize
     if a < b { a } else { b }
 }
 
-// The command whose count stands at a place. A list that is cut ends where it is cut.
+// The command whose count stands at a place. A list that is cut ends where it is cut. Only this program calls it.
 pub fn command_at(list: &[u8], at: usize) -> Span
     requires { ⌜ at < length (now list) ⌝ }
     ensures { λ r. ⌜ (at < r .from) × ((r .from ≤ r .end) × (r .end ≤ length (now (list .entry)))) ⌝ }

@@ -1,5 +1,5 @@
 -- An image's head is the head of an image: what `Head` asks follows from what `is_image` says.
-use Prim.Native.Nat.{ℕ, _<_, _≤_}
+use Prim.Native.Nat.{ℕ, _+_, _*_, _<_, _≤_}
 use mathlib.Core.Path.{_≡_, sym}
 use mathlib.Core.List.{List}
 use mathlib.Core.Bool.{true}
@@ -10,6 +10,7 @@ use Rattle.card.specs.Images.{Image}
 use Rattle.card.specs.Layout.{index, head}
 use Rattle.card.specs.Shelf.{isImage}
 use Rattle.card.specs.declared.Index.{Index}
+use Rattle.card.proofs.Frames.{placed}
 use Rattle.card.proofs.Heads.{index-head, head-sound}
 use Rattle.card.proofs.Images.{image}
 use Rattle.shelf.specs.Reads.{Indexed, Head}
@@ -35,8 +36,22 @@ module _ (l : List ℕ) (s : Image l) where
         files = omega (arith, s .files);
       }
 
+  entries : index l .table + 14 * index l .files ≤ length (head l)
+  unfolding head
+  entries =
+      let p = placed l in
+      let n = s .whole in
+      rw (length-take-le (index l .store) l (omega arith)) (omega arith)
+
   heads : Head (head l) (index l)
-  heads = record { indexed = indexed; directories = s .directories; files = s .files; sound = head-sound l s }
+  heads =
+      record {
+        indexed = indexed;
+        directories = s .directories;
+        files = s .files;
+        sound = head-sound l s;
+        whole = entries;
+      }
 
 module _ (l : List ℕ) (i : Index) (is : i ≡ index l) (sound : isImage l ≡ true) where
   pub head-of : Head (take (i .store) l) i

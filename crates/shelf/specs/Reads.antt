@@ -1,7 +1,8 @@
 -- What a reader hands on.
-use Prim.Native.Nat.{ℕ, _<_, _≤_}
+use Prim.Native.Nat.{ℕ, _+_, _*_, _<_, _≤_}
 use mathlib.Core.Path.{_≡_}
 use mathlib.Core.List.{List}
+use lib.ListN.{length}
 use Rattle.card.specs.Images.{SoundHead}
 use Rattle.card.specs.Layout.{index, sizes}
 use Rattle.card.specs.declared.Index.{Index}
@@ -35,9 +36,10 @@ pub record Counters (k : Code) : Type 0 where
   pub attempts : k .attempts ≤ 3
   pub unblocks : k .unblocks ≤ 10
 
--- the head of an image: its index, what bounds the counts, and what its entries keep to
+-- the head of an image: its index, what bounds the counts, what its entries keep to, and that they are all there
 pub record Head (h : List ℕ) (i : Index) : Type 0 where
   pub indexed : Indexed h i
   pub directories : i .directories ≤ 32
   pub files : i .files ≤ 200
   pub sound : SoundHead h
+  pub whole : i .table + 14 * i .files ≤ length h

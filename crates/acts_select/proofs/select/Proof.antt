@@ -39,7 +39,7 @@ returns c =
 find-file-requires : tie.Need-find-file-requires
 find-file-requires c κs =
     let d = c .before .before .before .before in
-    heading (d .before .before .pre) _ (d .index .ensures .is) .indexed
+    heading (d .before .before .pre) _ (d .index .ensures .is)
 
 file-requires : tie.Need-file-requires
 file-requires c κs =

@@ -1,7 +1,7 @@
 -- `acts_files::stand::stand` meets its contract.
 use native.Mathlib.Omega.{arith}
 use borrow.Author.Needs.{needs}
-use Rattle.acts_files.proofs.Standing.{few, start-inside, here}
+use Rattle.acts_files.proofs.Standing.{few, start-inside, entries-inside, here}
 use Rattle.acts_files.proofs.stand.stand.Statement.{statement}
 use Rattle.acts_files.proofs.stand.stand.Tie as tie
 
@@ -24,7 +24,8 @@ start-requires : tie.Need-start-requires
 start-requires c κs =
     let pre = c .before .before .before .before .before .pre in
     let n = few (pre .0) _ (pre .1) in
-    (c .before .before .before .index .ensures, omega arith)
+    let known = c .before .before .before .index .ensures in
+    (known, (omega arith, entries-inside (pre .0) _ (pre .1) _ (known .is)))
 
 wide-word-requires : tie.Need-wide-word-requires
 wide-word-requires c κs = search needs

@@ -1,6 +1,6 @@
 -- `acts_files::stand::start` meets its contract. The invariant: the sum is that of the first g sizes.
 use Prim.Native.Nat.{_-_, _*_, _≤_}
-use mathlib.Core.Path.{_≡_, _∙_}
+use mathlib.Core.Path.{_≡_}
 use native.Mathlib.Omega.{arith}
 use Rattle.card.specs.Layout.{sizes}
 use Rattle.acts_files.proofs.Standing.{no-sizes, next-size, all-sizes}
@@ -16,20 +16,17 @@ abbrev μ-loop : tie.MeasureT-loop
 loop-holds : tie.Need-loop-holds Inv-loop μ-loop
 loop-holds c = (no-sizes _, omega arith)
 
-mul-word-at : tie.Need-mul-word-at Inv-loop μ-loop
-mul-word-at c = omega arith
+mul-pair : tie.Need-mul-pair Inv-loop μ-loop
+mul-pair c = omega arith
 
-add-word-at : tie.Need-add-word-at Inv-loop μ-loop
-add-word-at c = omega arith
+add-pair : tie.Need-add-pair Inv-loop μ-loop
+add-pair c = omega arith
 
-add-word-at-2 : tie.Need-add-word-at-2 Inv-loop μ-loop
-add-word-at-2 c = omega arith
+add-pair-2 : tie.Need-add-pair-2 Inv-loop μ-loop
+add-pair-2 c = omega arith
 
-word-at-requires : tie.Need-word-at-requires Inv-loop μ-loop
-word-at-requires c κs = omega arith
-
-wide-word-requires : tie.Need-wide-word-requires Inv-loop μ-loop
-wide-word-requires c κs = omega arith
+pair-requires : tie.Need-pair-requires Inv-loop μ-loop
+pair-requires c κs = omega arith
 
 add-sum : tie.Need-add-sum Inv-loop μ-loop
 add-sum c = omega arith
@@ -42,9 +39,8 @@ loop-less c = omega arith
 
 loop-again : tie.Need-loop-again Inv-loop μ-loop
 loop-again c =
-    let known = c .before .before .before .before .before .pre .0 .is in
-    let size = c .wide-word .ensures .0 ∙ c .before .word-at .ensures in
-    (next-size _ _ known _ _ _ (c .before .before .before .loop .inv .0) size, omega arith)
+    let known = c .before .before .before .before .pre .0 .is in
+    (next-size _ _ known _ _ _ (c .before .before .loop .inv .0) (c .pair .ensures .0), omega arith)
 
 add-result : tie.Need-add-result Inv-loop μ-loop
 add-result c = omega arith
@@ -61,11 +57,10 @@ start-spec =
     Inv-loop
     μ-loop
     loop-holds
-    mul-word-at
-    add-word-at
-    add-word-at-2
-    word-at-requires
-    wide-word-requires
+    mul-pair
+    add-pair
+    add-pair-2
+    pair-requires
     add-sum
     add-g
     loop-less

@@ -1,6 +1,6 @@
 -- `shelf::read::file_home` meets its contract: the byte stands where the index says.
 use Prim.Native.Nat.{_+_, _*_}
-use mathlib.Core.Path.{ap, _∙_}
+use mathlib.Core.Path.{ap}
 use Rattle.card.specs.Bytes.{byte}
 use Rattle.card.specs.Layout.{fileEntry, file}
 use Rattle.card.specs.declared.Index.{Index}
@@ -8,22 +8,21 @@ use borrow.Author.Needs.{needs}
 use Rattle.shelf.proofs.read.file_home.Statement.{statement}
 use Rattle.shelf.proofs.read.file_home.Tie as tie
 
-mul-byte-at : tie.Need-mul-byte-at
-mul-byte-at c = search needs
+mul-at : tie.Need-mul-at
+mul-at c = search needs
 
-add-byte-at : tie.Need-add-byte-at
-add-byte-at c = search needs
+add-at : tie.Need-add-at
+add-at c = search needs
 
-add-byte-at-2 : tie.Need-add-byte-at-2
-add-byte-at-2 c = search needs
+add-at-2 : tie.Need-add-at-2
+add-at-2 c = search needs
 
-byte-at-requires : tie.Need-byte-at-requires
-byte-at-requires c κs = search needs
+shared-slice-read-result : tie.Need-shared-slice-read-result
+shared-slice-read-result c = search needs
 
 returns : tie.Need-returns
 unfolding file fileEntry
-returns c = c .byte-at .ensures ∙ ap (λ (x : Index). byte (c .before .before .before .args .l .now) (x .table + 14 * c .before .before .before .args .f + 2)) (c .before .before .before .pre .0 .is)
+returns c = ap (λ (x : Index). byte (c .before .before .args .l .now) (x .table + 14 * c .before .before .args .f + 2)) (c .before .before .pre .0 .is)
 
 pub file-home-spec : {M : Type 1} → statement M
-file-home-spec =
-    tie.close (tie.spec mul-byte-at add-byte-at add-byte-at-2 byte-at-requires returns)
+file-home-spec = tie.close (tie.spec mul-at add-at add-at-2 shared-slice-read-result returns)

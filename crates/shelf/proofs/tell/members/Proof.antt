@@ -21,13 +21,13 @@ loop-holds : tie.Need-loop-holds Inv-loop μ-loop
 loop-holds c = (search needs, (search needs, count-none _))
 
 member-requires : tie.Need-member-requires Inv-loop μ-loop
-member-requires c κs = (c .before .before .before .pre, omega (arith, c .before .before .before .pre .files))
+member-requires c κs = let h = c .before .before .before .pre in (h .indexed, omega arith)
 
 bit-requires : tie.Need-bit-requires Inv-loop μ-loop
 bit-requires c κs = search needs
 
 add-found : tie.Need-add-found Inv-loop μ-loop
-add-found c = omega (arith, c .bit .ensures .1, c .before .before .before .before .before .pre .files)
+add-found c = omega (arith, c .bit .ensures .1, c .before .before .before .before .before .pre .indexed .files)
 
 add-f : tie.Need-add-f Inv-loop μ-loop
 add-f c = search needs
@@ -39,7 +39,7 @@ loop-again : tie.Need-loop-again Inv-loop μ-loop
 loop-again c = (omega (arith, c .before .before .loop-test .taken), (omega (arith, c .bit .ensures .1, c .before .before .before .loop .inv .1 .0), count-more _ _ _ _ (c .before .before .before .loop .inv .1 .1) (c .bit .ensures .0 ∙ ap bit (c .before .member .ensures))))
 
 returns : tie.Need-returns Inv-loop μ-loop
-returns c = record { is = members-are _ _ (c .before .before .before .pre .is) _ _ (count-end _ _ _ _ (c .before .loop .inv .0) (c .loop-test .left) (c .before .loop .inv .1 .1)); few = omega (arith, c .before .loop .inv .0, c .before .loop .inv .1 .0) }
+returns c = record { is = members-are _ _ (c .before .before .before .pre .indexed .is) _ _ (count-end _ _ _ _ (c .before .loop .inv .0) (c .loop-test .left) (c .before .loop .inv .1 .1)); few = omega (arith, c .before .loop .inv .0, c .before .loop .inv .1 .0) }
 
 pub members-spec : {M : Type 1} → statement M
 members-spec =
