@@ -1,6 +1,6 @@
 //! The comparison of the coders.
 
-use crate::coder_values::{changed, random, valid};
+use crate::coder_values::{changed, random, two_changed, two_places, valid};
 use crate::input::{counted, number};
 use crate::judge::{differ, lines, report};
 use crate::options::Options;
@@ -43,6 +43,7 @@ pub fn run(options: &Options, tally: &mut Tally) {
             .map(|()| batches[place].len())
     });
     count(tally, results);
+    two_bytes(options, tally);
     prefixes(options, &mut prng, tally);
     if options.all_plmn {
         all_plmn(options, tally);
@@ -78,6 +79,22 @@ fn all_plmn(options: &Options, tally: &mut Tally) {
     let results = for_all(options.jobs, (1 << 24) / size, |place| {
         let entries: Vec<Entry> = (place * size..(place + 1) * size).map(plmn).collect();
         compare(options, &format!("all PLMN entries {place}"), &input(&entries)).map(|()| size)
+    });
+    count(tally, results);
+}
+
+/// Every change of two bytes of the shortest valid file: of the kinds whose
+/// files are short, and where it is asked for of every kind.
+fn two_bytes(options: &Options, tally: &mut Tally) {
+    let size = 1 << 14;
+    let kinds: &[u8] = if options.all_changes { &[1, 2, 3, 4, 5, 6] } else { &[3, 4, 6] };
+    let places: Vec<(u8, usize, usize)> = kinds.iter().flat_map(|&kind| two_places(kind)).collect();
+    let results = for_all(options.jobs, 4 * places.len(), |task| {
+        let (kind, one, two) = places[task / 4];
+        let part = task % 4 * size..(task % 4 + 1) * size;
+        let name = format!("kind {kind}, bytes {one} and {two}, from {}", part.start);
+        let entries: Vec<Entry> = part.map(|bytes| two_changed(kind, one, two, bytes)).collect();
+        compare(options, &name, &input(&entries)).map(|()| size)
     });
     count(tally, results);
 }

@@ -124,6 +124,21 @@ fn shortest(kind: u8) -> Vec<u8> {
     file
 }
 
+/// The pairs of places of the shortest valid file of a kind.
+pub fn two_places(kind: u8) -> Vec<(u8, usize, usize)> {
+    let length = shortest(kind).len();
+    (0..length).flat_map(|one| (one + 1..length).map(move |two| (kind, one, two))).collect()
+}
+
+/// The shortest valid file of a kind with two other bytes, to be decoded.
+pub fn two_changed(kind: u8, one: usize, two: usize, bytes: usize) -> Entry {
+    let mut file = shortest(kind);
+    file[one] = (bytes >> 8) as u8;
+    file[two] = bytes as u8;
+    let value = if kind == 4 { (bytes as u32 % 9).to_be_bytes().to_vec() } else { Vec::new() };
+    Entry { kind, operation: DECODE, file, value }
+}
+
 /// All one-byte changes of valid files and a sample of two-byte changes.
 pub fn changed(prng: &mut Prng) -> Vec<Entry> {
     let mut list = Vec::new();

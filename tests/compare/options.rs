@@ -17,6 +17,7 @@ pub struct Options {
     pub limit: Duration,
     pub table: bool,
     pub all_plmn: bool,
+    pub all_changes: bool,
     pub paths: Vec<String>,
 }
 
@@ -26,6 +27,7 @@ modes:   images (by itself where none is named), random, prefixes, steps, coder,
 options: --player CMD --teller CMD --coder CMD --second CMD
          --seed N --first N --count N --commands N --jobs N --limit SECONDS
          --table (print what each instruction gave) --all-plmn (all 2^24 entries)
+         --all-changes (every change of two bytes of a file of each kind)
 paths:   prefixes, steps, show: input files or cases; cases: folders";
 
 const MODES: [&str; 7] = ["images", "random", "prefixes", "steps", "coder", "cases", "show"];
@@ -48,6 +50,7 @@ pub fn read(arguments: &[String]) -> Result<Options, String> {
         match word.as_str() {
             "--table" => options.table = true,
             "--all-plmn" => options.all_plmn = true,
+            "--all-changes" => options.all_changes = true,
             name if name.starts_with("--") => {
                 let value = rest.next().ok_or(format!("{name} needs a value"))?;
                 set(&mut options, name, value)?;
