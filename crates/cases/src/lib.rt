@@ -36,16 +36,16 @@ pub fn encode(kind: Kind, value: &[u8], file: &mut [u8]) -> Answer
     ensures { λ r. ⌜ told r (now (file .exit)) ≡ encode kind (now (value .entry)) (now (file .entry)) ⌝ }
 {
     match kind {
-        Kind::Iccid => codings::iccid::encode(value, file),
-        Kind::Imsi => codings::imsi::encode(value, file),
-        Kind::Network => codings::network::encode(values::entry(value), file),
-        Kind::Services => codings::services::write(
+        Kind::Iccid => codings_iccid::encode(value, file),
+        Kind::Imsi => codings_imsi::encode(value, file),
+        Kind::Network => codings_network::encode(values::entry(value), file),
+        Kind::Services => codings_services::write(
             file,
             values::ordered(value),
             values::state(value),
         ),
         Kind::Spn => values::put_provider(value, file),
-        Kind::Admin => codings::admin::encode(values::mode(value), values::mnc(value), file),
+        Kind::Admin => codings_admin::encode(values::mode(value), values::mnc(value), file),
         Kind::Unknown => Answer::Value,
     }
 }

@@ -84,7 +84,7 @@ pub(crate) fn alone(given: usize, r: Shown) -> Shown
 pub(crate) fn iccid(file: &[u8]) -> Shown
     ensures { λ r. ⌜ Shows r (iccidIn (now (file .entry))) ⌝ }
 {
-    let r = codings::iccid::decode(file);
+    let r = codings_iccid::decode(file);
     let answer = r.answer;
     let value = r.digits;
     Shown {
@@ -97,7 +97,7 @@ pub(crate) fn iccid(file: &[u8]) -> Shown
 pub(crate) fn imsi(file: &[u8]) -> Shown
     ensures { λ r. ⌜ Shows r (imsiIn (now (file .entry))) ⌝ }
 {
-    let r = codings::imsi::decode(file);
+    let r = codings_imsi::decode(file);
     let answer = r.answer;
     let digits = r.digits;
     let mut value = [0u8; 20];
@@ -112,7 +112,7 @@ pub(crate) fn imsi(file: &[u8]) -> Shown
 pub(crate) fn network(file: &[u8]) -> Shown
     ensures { λ r. ⌜ Shows r (shown entryBytes (networkIn (now (file .entry)))) ⌝ }
 {
-    let r = codings::network::decode(file);
+    let r = codings_network::decode(file);
     let answer = r.answer;
     let e = r.entry;
     let mut value = [0u8; 20];
@@ -142,7 +142,7 @@ fn state_byte(v: Service) -> u8
 pub(crate) fn service(file: &[u8], n: usize) -> Shown
     ensures { λ r. ⌜ Shows r (shown stateBytes (serviceIn (now (file .entry)) n)) ⌝ }
 {
-    let r = codings::services::read(file, n);
+    let r = codings_services::read(file, n);
     let answer = r.answer;
     let v = r.service;
     let mut value = [0u8; 20];
@@ -153,13 +153,13 @@ pub(crate) fn service(file: &[u8], n: usize) -> Shown
 pub(crate) fn spn(file: &[u8]) -> Shown
     ensures { λ r. ⌜ Shows r (shown providerBytes (spnIn (now (file .entry)))) ⌝ }
 {
-    let r = codings::spn::decode(file);
+    let r = codings_spn::decode(file);
     let answer = r.answer;
     let name = r.name;
     let count = r.count;
     let mut value = [0u8; 20];
     place(&name, 0, &mut value, 1);
-    value[0] = codings::spn::bits(r.bit1, r.bit2);
+    value[0] = codings_spn::bits(r.bit1, r.bit2);
     kept(answer, value, count + 1)
 }
 
@@ -175,7 +175,7 @@ fn mnc_byte(n: MncLength) -> u8
 pub(crate) fn admin(file: &[u8]) -> Shown
     ensures { λ r. ⌜ Shows r (shown settingBytes (adminIn (now (file .entry)))) ⌝ }
 {
-    let r = codings::admin::decode(file);
+    let r = codings_admin::decode(file);
     let answer = r.answer;
     let n = r.mnc;
     let mut value = [0u8; 20];

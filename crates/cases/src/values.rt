@@ -135,11 +135,11 @@ pub(crate) fn put_provider(v: &[u8], file: &mut [u8]) -> Answer
 {
     let none = [255u8; 1];
     if v.len() == 0 {
-        return codings::spn::encode(false, false, &none, file);
+        return codings_spn::encode(false, false, &none, file);
     }
     let b = v[0];
     if b >= 4 {
-        return codings::spn::encode(false, false, &none, file);
+        return codings_spn::encode(false, false, &none, file);
     }
-    codings::spn::encode(b % 2 == 1, b / 2 == 1, &v[1..], file)
+    codings_spn::encode(b % 2 == 1, b / 2 == 1, &v[1..], file)
 }

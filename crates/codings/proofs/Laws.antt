@@ -1,14 +1,12 @@
 pub mod Answers
-pub mod Bytes
+pub mod Tests
 pub mod Network
 pub mod NetworkTrip
 pub mod Services
 pub mod ServicesTrip
 pub mod Admin
 pub mod AdminTrip
-pub mod Spn
 pub mod SpnTrip
-pub mod Iccid
 pub mod IccidTrip
 pub mod Imsi
 pub mod ImsiTrip

@@ -14,7 +14,7 @@ use Rattle.codings.specs.declared.Answer.the-variants.{Done, Length, Value}
 use Rattle.codings.specs.Spn as spn
 use Rattle.codings.specs.Spn.{Provider, bits}
 use Rattle.codings.specs.declared.spn.Spn.{Spn}
-use Rattle.codings.proofs.Laws.Spn.{headed, bits-are}
+use Rattle.codings_spn.proofs.Laws.{headed, bits-are}
 use Rattle.cases.specs.Choice.{choose}
 use Rattle.cases.specs.Values.{providerBytes}
 use Rattle.cases.specs.Shown.{Shows, shown, alone, refusal, kept, stricter, without}

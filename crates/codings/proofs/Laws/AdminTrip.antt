@@ -15,7 +15,7 @@ use Rattle.codings.specs.RoundTrips.{Undecoded}
 use Rattle.codings.specs.declared.admin.MncLength.{MncLength}
 use Rattle.codings.specs.declared.admin.MncLength.the-variants.{Absent, Digits}
 use Rattle.codings.proofs.Laws.Answers.{right, was-done, either}
-use Rattle.codings.proofs.Laws.Bytes.{both}
+use Rattle.codings.proofs.Laws.Tests.{both}
 use Rattle.codings.proofs.Laws.Admin.{small, absent-in, digits-in, without, reads}
 
 module _ (l : List ℕ) (m : ℕ) (h : 3 ≤ length l) (em : isMode m ≡ true) where

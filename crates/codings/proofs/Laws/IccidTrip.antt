@@ -12,7 +12,7 @@ use Rattle.fields.specs.Halves.{halves, joined}
 use Rattle.fields.specs.Text.{lead, padded, text, closed, within}
 use Rattle.codings.specs.Iccid.{numbered, decode, writable, encode}
 use Rattle.codings.proofs.Laws.Answers.{right, was-done}
-use Rattle.codings.proofs.Laws.Bytes.{both}
+use Rattle.codings.proofs.Laws.Tests.{both}
 use Rattle.fields.proofs.Laws.Fields.{padded-length}
 use Rattle.fields.proofs.Laws.Halves.{halves-length, joined-length, joined-halves}
 use Rattle.fields.proofs.Laws.Digits.{halves-back, first-digit, some-lead}

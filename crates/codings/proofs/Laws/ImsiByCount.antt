@@ -13,10 +13,9 @@ use Rattle.fields.specs.Halves.{halves, joined}
 use Rattle.fields.specs.Text.{filled, padded, within}
 use Rattle.codings.specs.Answers.{Outcome, outcome, judge}
 use Rattle.codings.specs.Imsi as imsi
-use Rattle.codings.specs.Imsi.{Shows, mark, size, odd, even}
+use Rattle.codings.specs.Imsi.{mark, size, odd, even}
 use Rattle.codings.specs.ImsiByCount.{digitsIn, numbered, decode, ByCount}
-use Rattle.codings.specs.declared.imsi.Imsi.{Imsi}
-use Rattle.codings.proofs.Laws.Bytes.{both, iff, or-true}
+use Rattle.codings.proofs.Laws.Tests.{both, iff, or-true}
 use Rattle.fields.proofs.Laws.Fields.{filled-is}
 use Rattle.codings.proofs.Laws.Imsi.{odd as is-odd, even as is-even}
 use Rattle.codings.proofs.Laws.ImsiTrip.{Told, told}
@@ -288,6 +287,3 @@ pub byCount : ByCount
 unfolding decode imsi.decode
 byCount l =
     same-judge _ _ _ _ _ _ (λ f. alike l (eqb-true (length l) 9 f) .0) (λ f v. alike l (eqb-true (length l) 9 f) .1 v)
-
-pub by-count : (l : List ℕ) (r : Imsi) → Shows r (decode l) → Shows r (imsi.decode l)
-by-count l r s = rw (← byCount l) s

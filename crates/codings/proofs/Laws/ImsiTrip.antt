@@ -14,7 +14,7 @@ use Rattle.fields.specs.Text.{padded, text, closed, within}
 use Rattle.codings.specs.Imsi.{mark, size, writable, encode}
 use Rattle.codings.specs.ImsiByCount.{digitsIn, numbered, decode}
 use Rattle.codings.proofs.Laws.Answers.{right, was-done}
-use Rattle.codings.proofs.Laws.Bytes.{both}
+use Rattle.codings.proofs.Laws.Tests.{both}
 use Rattle.fields.proofs.Laws.Fields.{padded-length}
 use Rattle.fields.proofs.Laws.Halves.{halves-length, joined-length, joined-halves, halves-joined}
 use Rattle.fields.proofs.Laws.Digits.{padded-small}

@@ -14,7 +14,7 @@ use Rattle.codings.specs.Network.{named, network, entryIn, decode, writa
 use Rattle.codings.specs.declared.network.Plmn.{Plmn}
 use Rattle.codings.specs.declared.network.Plmn.the-variants.{Unused, Network}
 use Rattle.codings.proofs.Laws.Answers.{right, was-done}
-use Rattle.codings.proofs.Laws.Bytes.{both}
+use Rattle.codings.proofs.Laws.Tests.{both}
 use Rattle.fields.proofs.Laws.Halves.{pair}
 use Rattle.fields.proofs.Laws.Fields.{lead-below, filled-is, lead-none, goes-on, ends, broken}
 use Rattle.codings.proofs.Laws.Network.{free, is-named, is-network}

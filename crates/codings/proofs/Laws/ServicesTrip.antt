@@ -13,7 +13,7 @@ use Rattle.codings.specs.Services.{unit, pairOf, said, says, changed, re
 use Rattle.codings.specs.declared.services.Service.{Service}
 use Rattle.codings.specs.declared.services.Service.the-variants.{NotAllocated, Allocated, Activated}
 use Rattle.codings.proofs.Laws.Answers.{was-done}
-use Rattle.codings.proofs.Laws.Bytes.{both}
+use Rattle.codings.proofs.Laws.Tests.{both}
 use Rattle.codings.proofs.Laws.Services.{below4, by-unit, pair-small, not-allocated, none, reads, writes}
 
 -- what two bits say, and the bits that say it

@@ -11,7 +11,7 @@ use Rattle.codings.specs.Answers.{done}
 use Rattle.fields.specs.Text.{padded, text, closed, within}
 use Rattle.codings.specs.Spn.{Provider, provider, inFile, bits, decode, writable, encode}
 use Rattle.codings.proofs.Laws.Answers.{right, was-done}
-use Rattle.codings.proofs.Laws.Bytes.{both}
+use Rattle.codings.proofs.Laws.Tests.{both}
 use Rattle.fields.proofs.Laws.Fields.{padded-length}
 use Rattle.codings.proofs.Laws.Services.{below4}
 use Rattle.fields.proofs.Laws.Text.{lead-le, closed-padded, text-padded, text-length, text-within, padded-text}
