@@ -1,5 +1,3 @@
 pub mod Choice
-pub mod Values
-pub mod Shown
-pub mod Cases
+pub mod Words
 pub mod Lengths

@@ -9,7 +9,7 @@ use Rattle.codings.specs.declared.Answer.{Answer}
 use Rattle.codings.specs.declared.Answer.the-variants.{Done, Length, Value}
 use Rattle.cases.specs.Shown.{Shows}
 use Rattle.cases.specs.declared.shown.Shown.{Shown}
-use Rattle.cases.proofs.Laws.Shown.{fills-up}
+use Rattle.cases_decode.proofs.Laws.Shown.{fills-up}
 
 pub one-digit : (a : Answer) {n : ℕ} → n ≡ number a → n ≤ 9
 one-digit Done e = omega (arith, e)

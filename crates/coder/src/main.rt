@@ -1,7 +1,7 @@
 // Decodes and encodes the cases on standard input: their number, and for each its kind, its operation, its file's bytes and
 // its value's bytes after their counts. One line a case, written before the next is read.
-use cases::Kind;
-use cases::Operation;
+use cases::kinds::Kind;
+use cases::operations::Operation;
 use codings::Answer;
 use streams::input;
 use streams::input::Count;
@@ -46,18 +46,18 @@ fn play(
 ) {
     match operation {
         Operation::Decode => {
-            let r = cases::decode(kind, value, file);
+            let r = cases_decode::decode(kind, value, file);
             let answer = r.answer;
             let shown = r.value;
             let count = r.count;
             report(k, answer, file, &shown[..count], text);
         }
         Operation::Encode => {
-            let answer = cases::encode(kind, value, file);
+            let answer = cases_encode::encode(kind, value, file);
             report(k, answer, file, value, text);
         }
         Operation::Unknown => {
-            let answer = cases::other(kind, file);
+            let answer = cases_decode::other(kind, file);
             report(k, answer, file, b"", text);
         }
     }
@@ -93,8 +93,8 @@ fn next(k: usize, file: &mut [u8], value: &mut [u8], text: &mut [u8]) -> bool
     if !v.came {
         return false;
     }
-    let kind = cases::kind_of(head[0]);
-    let operation = cases::operation_of(head[1]);
+    let kind = cases::kinds::kind_of(head[0]);
+    let operation = cases::operations::operation_of(head[1]);
     let size = f.value;
     let long = v.value;
     play(k, kind, operation, &mut file[..size], &value[..long], text);

@@ -1,7 +1,7 @@
 -- `cases::values::word` meets its contract.
 use mathlib.Core.Path.{_∙_}
 use borrow.Author.Needs.{needs}
-use Rattle.cases.proofs.Laws.Values.{words}
+use Rattle.cases.proofs.Laws.Words.{words}
 use Rattle.cases.proofs.values.word.Statement.{statement}
 use Rattle.cases.proofs.values.word.Tie as tie
 
