@@ -3,7 +3,7 @@ use codings::Answer;
 use codings::services::Look;
 use codings::services::Service;
 ghost use mathlib.Core.Path.{_≡_};
-ghost use Prim.Native.Nat.{_/_, _%_, _≤_, _<_};
+ghost use Prim.Native.Nat.{_<_};
 ghost use Rattle.codings.specs.Answers.{told};
 ghost use Rattle.codings.specs.Services.{unit, pairOf, said, says, changed, read, write};
 

@@ -9,7 +9,7 @@ use lib.Dec.{eqb}
 use lib.ListN.{length, getD, take, drop, set}
 use Rattle.codings.specs.Answers.{Outcome, outcome, done}
 use Rattle.fields.specs.Text.{lead, padded, placed, text, closed, within}
-use Rattle.codings.specs.Spn.{Shows, Provider, provider, inFile, bits, decode, writable, encode}
+use Rattle.codings.specs.Spn.{Shows, Provider, provider, bits, decode, writable, encode}
 use Rattle.codings.specs.declared.Answer.the-variants.{Done}
 use Rattle.codings.specs.declared.spn.Spn.{Spn}
 use Rattle.codings.proofs.Laws.Answers.{wrong-length, wrong-value, right}

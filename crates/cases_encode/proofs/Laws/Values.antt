@@ -1,21 +1,18 @@
 -- Values from bytes: each way out.
 use Prim.Native.Nat.{ℕ, _+_, _-_, _*_, _/_, _%_, _≤_, _<_}
-use mathlib.Core.Path.{_≡_, refl, ap, _∙_, sym}
+use mathlib.Core.Path.{_≡_, ap, _∙_}
 use mathlib.Core.List.{List, [], _∷_}
-use mathlib.Core.Bool.{Bool, true, false}
+use mathlib.Core.Bool.{false}
 use native.Mathlib.Omega.{arith}
 use borrow.Author.Tests.{eq-eqb, ne-eqb, lt-ltb, le-ltb, le-leb, lt-leb}
-use lib.Dec.{eqb, ltb, leb}
+use lib.Dec.{eqb}
 use lib.ListN.{length, getD, take, drop}
 use Rattle.fields.specs.Text.{lead}
 use Rattle.fields.proofs.Laws.Text.{rest}
 use Rattle.codings.specs.Answers.{Outcome}
 use Rattle.codings.specs.Spn.{Provider, provider, encode}
-use Rattle.codings.specs.declared.network.Plmn.{Plmn}
 use Rattle.codings.specs.declared.network.Plmn.the-variants.{Unused, Network}
-use Rattle.codings.specs.declared.services.Service.{Service}
 use Rattle.codings.specs.declared.services.Service.the-variants.{NotAllocated, Allocated, Activated}
-use Rattle.codings.specs.declared.admin.MncLength.{MncLength}
 use Rattle.codings.specs.declared.admin.MncLength.the-variants.{Absent, Digits}
 use Rattle.cases.specs.Values.{entryOf, word, ordered, stateOf, modeOf, mncOf, providerOf}
 use Rattle.cases.proofs.Laws.Choice.{first, second, next, both, not-first, not-second}

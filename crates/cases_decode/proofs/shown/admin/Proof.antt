@@ -1,7 +1,6 @@
 -- `cases_decode::shown::admin` meets its contract.
 use mathlib.Core.Path.{refl}
 use borrow.Author.Needs.{needs}
-use Rattle.fields.specs.Text.{padded}
 use Rattle.cases.specs.Values.{settingBytes}
 use Rattle.cases_decode.proofs.Laws.Shown.{keeps, two-bytes}
 use Rattle.cases_decode.proofs.shown.admin.Statement.{statement}

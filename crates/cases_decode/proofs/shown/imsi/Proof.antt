@@ -1,6 +1,4 @@
 -- `cases_decode::shown::imsi` meets its contract.
-use mathlib.Core.Path.{refl}
-use mathlib.Core.Path.{_∙_}
 use native.Mathlib.Omega.{arith}
 use borrow.Author.Needs.{needs}
 use Rattle.cases_decode.proofs.Laws.Shown.{spread}

@@ -1,9 +1,6 @@
 -- `cases_decode::shown::service` meets its contract.
 use mathlib.Core.Path.{refl}
-use mathlib.Core.Path.{ap}
-use mathlib.Core.List.{List, [], _∷_}
 use borrow.Author.Needs.{needs}
-use Rattle.fields.specs.Text.{padded}
 use Rattle.cases.specs.Values.{stateBytes}
 use Rattle.cases_decode.proofs.Laws.Shown.{keeps, one-byte}
 use Rattle.cases_decode.proofs.shown.service.Statement.{statement}
