@@ -32,9 +32,9 @@ pub fn change(image: &mut [u8], s: Session, c: usize, given: &[u8]) -> Reply
     requires { ⌜ (c < 2) × (length (now given) ≡ 16) ⌝ }
     ensures { λ t. ⌜ Codes (λ e c. change e s c (now (given .entry))) (now (image .entry)) s c t (now (image .exit)) ⌝ }
 {
-    let at = CODES + ENTRY * c;
-    let end = at + ENTRY;
-    codes::change(&mut image[at..end], s, c, given)
+    let from = CODES + ENTRY * c;
+    let end = from + ENTRY;
+    codes::change(&mut image[from..end], s, c, given)
 }
 
 // DISABLE of CHV1. Only this player's crates call it, after the tests of the image and the session.
@@ -54,9 +54,9 @@ pub fn enable(image: &mut [u8], s: Session, given: &[u8]) -> Reply
     requires { ⌜ length (now given) ≡ 8 ⌝ }
     ensures { λ t. ⌜ Codes (λ e c. enable e s c (now (given .entry))) (now (image .entry)) s 0 t (now (image .exit)) ⌝ }
 {
-    let at = CODES;
-    let end = at + ENTRY;
-    codes::enable(&mut image[at..end], s, 0, given)
+    let from = CODES;
+    let end = from + ENTRY;
+    codes::enable(&mut image[from..end], s, 0, given)
 }
 
 // UNBLOCK of code c: its unblock code and the new code. Only this player's crates call it, after the tests of the image and the session.
@@ -65,7 +65,7 @@ pub fn unblock(image: &mut [u8], s: Session, c: usize, given: &[u8]) -> Reply
     requires { ⌜ (c < 2) × (length (now given) ≡ 16) ⌝ }
     ensures { λ t. ⌜ Codes (λ e c. unblock e s c (now (given .entry))) (now (image .entry)) s c t (now (image .exit)) ⌝ }
 {
-    let at = CODES + ENTRY * c;
-    let end = at + ENTRY;
-    codes::unblock(&mut image[at..end], s, c, given)
+    let start = CODES + ENTRY * c;
+    let end = start + ENTRY;
+    codes::unblock(&mut image[start..end], s, c, given)
 }

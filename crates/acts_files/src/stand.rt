@@ -68,7 +68,7 @@ fn start(l: &[u8], i: Index, f: usize) -> usize
     i.store + sum
 }
 
-// The current file. Only this player's crates call it.
+// The current file. Only this crate calls it.
 pub fn stand(l: &[u8], s: Session, f: usize) -> Place
     requires { ⌜ Ready (now l) s ⌝ }
     requires { ⌜ s .current ≡ File f ⌝ }

@@ -9,7 +9,7 @@ ghost use Rattle.card.specs.Access.{level, fulfilled, allowed, valid, usable, b
 ghost use Rattle.card.specs.Answers.{first};
 
 // The half of the access bytes that an act goes by.
-pub fn level(e: Entry, a: Act) -> u8
+fn level(e: Entry, a: Act) -> u8
     ensures { λ r. ⌜ r ≡ level e a ⌝ }
 {
     match a {
@@ -23,33 +23,33 @@ pub fn level(e: Entry, a: Act) -> u8
 }
 
 // Level 0 always; 1 and 2 by their codes; 3 to F never.
-pub fn fulfilled(r: Rights, n: u8) -> bool
+fn fulfilled(r: Rights, n: u8) -> bool
     ensures { λ b. ⌜ b ≡ fulfilled r n ⌝ }
 {
     (n == 0) | ((n == 1) & r.level1) | ((n == 2) & r.level2)
 }
 
-pub fn allowed(r: Rights, e: Entry, a: Act) -> bool
+fn allowed(r: Rights, e: Entry, a: Act) -> bool
     ensures { λ b. ⌜ b ≡ allowed r e a ⌝ }
 {
     fulfilled(r, level(e, a))
 }
 
 // Status b1, and status b3.
-pub fn valid(e: Entry) -> bool
+fn valid(e: Entry) -> bool
     ensures { λ b. ⌜ b ≡ valid e ⌝ }
 {
     e.status % 2 == 1
 }
 
-pub fn usable(e: Entry) -> bool
+fn usable(e: Entry) -> bool
     ensures { λ b. ⌜ b ≡ usable e ⌝ }
 {
     e.status / 4 % 2 == 1
 }
 
 // Whether the mark stands in an act's way.
-pub fn barred(e: Entry, a: Act) -> bool
+fn barred(e: Entry, a: Act) -> bool
     ensures { λ b. ⌜ b ≡ barred e a ⌝ }
 {
     let valid = valid(e);

@@ -19,13 +19,13 @@ ghost use Rattle.commands.specs.Gives.{brief, Codes};
 ghost use Rattle.commands_codes.specs.Keys.{keyed, valueAt, untestable, missedWord, Sized, Tried};
 
 // Which of an entry's two codes a command tests.
-pub enum Key {
+enum Key {
     Chv,
     Unblocking,
 }
 
 // What an entry says, but for its two codes.
-pub fn code(e: &[u8]) -> Code
+fn code(e: &[u8]) -> Code
     requires { ⌜ length (now e) ≡ 20 ⌝ }
     ensures { λ r. ⌜ r ≡ codeEntry (now (e .entry)) 0 ⌝ }
 {
@@ -37,13 +37,13 @@ pub fn code(e: &[u8]) -> Code
     }
 }
 
-pub fn disabled(k: Code) -> bool
+fn disabled(k: Code) -> bool
     ensures { λ b. ⌜ b ≡ disabled k ⌝ }
 {
     k.flags % 2 == 1
 }
 
-pub fn ready(key: Key, k: Code) -> bool
+fn ready(key: Key, k: Code) -> bool
     ensures { λ b. ⌜ b ≡ ready (keyed key) k ⌝ }
 {
     let initialised = k.flags / 128 % 2 == 1;
@@ -54,7 +54,7 @@ pub fn ready(key: Key, k: Code) -> bool
 }
 
 // How many attempts are left, and where that stands in the entry.
-pub fn attempts_left(key: Key, k: Code) -> u8
+fn attempts_left(key: Key, k: Code) -> u8
     ensures { λ r. ⌜ r ≡ attemptsLeft (keyed key) k ⌝ }
 {
     match key {
@@ -63,7 +63,7 @@ pub fn attempts_left(key: Key, k: Code) -> u8
     }
 }
 
-pub fn attempts_at(key: Key) -> usize
+fn attempts_at(key: Key) -> usize
     ensures { λ r. ⌜ (r ≡ attemptsAt (keyed key)) × (r < 20) ⌝ }
 {
     match key {
@@ -73,7 +73,7 @@ pub fn attempts_at(key: Key) -> usize
 }
 
 // Where the code itself stands in the entry.
-pub fn value_at(key: Key) -> usize
+fn value_at(key: Key) -> usize
     ensures { λ r. ⌜ (r ≡ valueAt (keyed key)) × (r ≤ 12) ⌝ }
 {
     match key {
@@ -83,7 +83,7 @@ pub fn value_at(key: Key) -> usize
 }
 
 // The word of the first refusal of a test, and 0 where none holds.
-pub fn untestable(key: Key, k: Code, contradicts: bool) -> u16
+fn untestable(key: Key, k: Code, contradicts: bool) -> u16
     ensures { λ w. ⌜ w ≡ first (untestable (keyed key) k contradicts) ⌝ }
 {
     if !ready(key, k) {
@@ -99,7 +99,7 @@ pub fn untestable(key: Key, k: Code, contradicts: bool) -> u16
 }
 
 // The word of a wrong code, by the attempts that were left before it.
-pub fn missed_word(left: u8) -> u16
+fn missed_word(left: u8) -> u16
     ensures { λ w. ⌜ w ≡ missedWord left ⌝ }
 {
     if left == 1 {
@@ -109,7 +109,7 @@ pub fn missed_word(left: u8) -> u16
 }
 
 // The entry with other flags, all attempts, other unblock attempts and another code.
-pub fn renew(e: &mut [u8], flags: u8, unblocks: u8, new: &[u8])
+fn renew(e: &mut [u8], flags: u8, unblocks: u8, new: &[u8])
     requires { ⌜ (length (now e) ≡ 20) × (length (now new) ≡ 8) ⌝ }
     ensures { λ _. ⌜ now (e .exit) ≡ renewed (now (e .entry)) flags unblocks (now (new .entry)) ⌝ }
 {
@@ -121,7 +121,7 @@ pub fn renew(e: &mut [u8], flags: u8, unblocks: u8, new: &[u8])
 }
 
 // A code is tested: right, it is presented and its entry is renewed; wrong, its counter falls by one.
-pub fn tested(
+fn tested(
     e: &mut [u8],
     s: Session,
     c: usize,
@@ -156,17 +156,8 @@ pub fn verify(e: &mut [u8], s: Session, c: usize, given: &[u8]) -> Reply
     ensures { λ t. ⌜ Codes (verify (now (e .entry)) s c (now (given .entry))) t (now (e .exit)) ⌝ }
 {
     let k = code(e);
-    tested(
-        e,
-        s,
-        c,
-        Key::Chv,
-        disabled(k),
-        given,
-        k.flags,
-        k.unblocks,
-        given,
-    )
+    let off = disabled(k);
+    tested(e, s, c, Key::Chv, off, given, k.flags, k.unblocks, given)
 }
 
 // The second eight bytes become the code.
@@ -177,17 +168,8 @@ pub fn change(e: &mut [u8], s: Session, c: usize, given: &[u8]) -> Reply
     let k = code(e);
     let old = &given[..8];
     let new = &given[8..];
-    tested(
-        e,
-        s,
-        c,
-        Key::Chv,
-        disabled(k),
-        old,
-        k.flags,
-        k.unblocks,
-        new,
-    )
+    let off = disabled(k);
+    tested(e, s, c, Key::Chv, off, old, k.flags, k.unblocks, new)
 }
 
 // Flag b1 becomes 1.
@@ -197,17 +179,8 @@ pub fn disable(e: &mut [u8], s: Session, c: usize, given: &[u8]) -> Reply
 {
     let k = code(e);
     let flags = k.flags - k.flags % 2 + 1;
-    tested(
-        e,
-        s,
-        c,
-        Key::Chv,
-        disabled(k),
-        given,
-        flags,
-        k.unblocks,
-        given,
-    )
+    let off = disabled(k);
+    tested(e, s, c, Key::Chv, off, given, flags, k.unblocks, given)
 }
 
 // Flag b1 becomes 0.
@@ -217,17 +190,8 @@ pub fn enable(e: &mut [u8], s: Session, c: usize, given: &[u8]) -> Reply
 {
     let k = code(e);
     let flags = k.flags - k.flags % 2;
-    tested(
-        e,
-        s,
-        c,
-        Key::Chv,
-        !disabled(k),
-        given,
-        flags,
-        k.unblocks,
-        given,
-    )
+    let on = !disabled(k);
+    tested(e, s, c, Key::Chv, on, given, flags, k.unblocks, given)
 }
 
 // The unblock code is tested; flag b1 becomes 0, and the second eight bytes become the code.

@@ -19,7 +19,7 @@ ghost use Rattle.card.specs.Binary.{binary, readBinary, updateBinary};
 ghost use Rattle.commands.specs.Gives.{Gives, Writes};
 
 // The word of the first refusal of n bytes from a place on, and 0 where none holds.
-pub fn binary(r: Rights, e: Entry, a: Act, at: usize, n: usize) -> u16
+fn binary(r: Rights, e: Entry, a: Act, at: usize, n: usize) -> u16
     ensures { λ w. ⌜ w ≡ first (binary r e a at n) ⌝ }
 {
     let word = shared(r, e, a, e.structure == 0);

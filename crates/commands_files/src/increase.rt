@@ -22,14 +22,14 @@ ghost use Rattle.commands.specs.Gives.{Writes};
 ghost use Rattle.commands_files.specs.Stands.{Stands, Counts};
 
 // Three bytes, high byte first, as a number and back.
-pub fn amount(l: &[u8], at: usize) -> usize
+fn amount(l: &[u8], at: usize) -> usize
     requires { ⌜ at + 3 ≤ length (now l) ⌝ }
     ensures { λ r. ⌜ (r ≡ amount (now (l .entry)) at) × (r < 16777216) ⌝ }
 {
     wide(l[at]) * 65536 + wide(l[at + 1]) * 256 + wide(l[at + 2])
 }
 
-pub fn amount_bytes(n: usize) -> [u8; 3]
+fn amount_bytes(n: usize) -> [u8; 3]
     requires { ⌜ n < 16777216 ⌝ }
     ensures { λ r. ⌜ r ≡ amountBytes n ⌝ }
 {
@@ -40,7 +40,7 @@ pub fn amount_bytes(n: usize) -> [u8; 3]
 }
 
 // A sum's three bytes and the three that were added.
-pub fn six(n: usize, added: &[u8]) -> [u8; 6]
+fn six(n: usize, added: &[u8]) -> [u8; 6]
     requires { ⌜ (n < 16777216) × (length (now added) ≡ 3) ⌝ }
     ensures { λ r. ⌜ r ≡ amountBytes n ++ now (added .entry) ⌝ }
 {

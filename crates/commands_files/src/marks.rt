@@ -26,16 +26,12 @@ pub fn invalidate(r: Rights, e: Entry, s: Session) -> Marked
     let word = shared(r, e, Act::Invalidate, true);
     if word != 0 {
         let reply = refusal(s, word);
-        return Marked {
-            reply,
-            status: e.status,
-        };
+        let was = e.status;
+        return Marked { reply, status: was };
     }
     let reply = silent(dropped(s), 0x9000);
-    Marked {
-        reply,
-        status: e.status - 1,
-    }
+    let status = e.status - 1;
+    Marked { reply, status }
 }
 
 // Status b1 becomes 1.
@@ -45,14 +41,10 @@ pub fn rehabilitate(r: Rights, e: Entry, s: Session) -> Marked
     let word = shared(r, e, Act::Rehabilitate, true);
     if word != 0 {
         let reply = refusal(s, word);
-        return Marked {
-            reply,
-            status: e.status,
-        };
+        let old = e.status;
+        return Marked { reply, status: old };
     }
     let reply = silent(dropped(s), 0x9000);
-    Marked {
-        reply,
-        status: e.status + 1,
-    }
+    let status = e.status + 1;
+    Marked { reply, status }
 }

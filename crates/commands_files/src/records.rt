@@ -43,7 +43,7 @@ pub fn records(e: Entry) -> usize
 }
 
 // The record after a pointer, from 1, and 0 where there is none; a cyclic file goes round.
-pub fn next(e: Entry, p: Pointer) -> usize
+fn next(e: Entry, p: Pointer) -> usize
     ensures { λ r. ⌜ r ≡ next e p ⌝ }
 {
     let Pointer::At(k) = p else {
@@ -58,7 +58,7 @@ pub fn next(e: Entry, p: Pointer) -> usize
     0
 }
 
-pub fn previous(e: Entry, p: Pointer) -> usize
+fn previous(e: Entry, p: Pointer) -> usize
     ensures { λ r. ⌜ r ≡ previous e p ⌝ }
 {
     let Pointer::At(k) = p else {
@@ -74,7 +74,7 @@ pub fn previous(e: Entry, p: Pointer) -> usize
 }
 
 // The record with a number, and the current one where the number is 0.
-pub fn absolute(e: Entry, n: usize, p: Pointer) -> usize
+fn absolute(e: Entry, n: usize, p: Pointer) -> usize
     ensures { λ r. ⌜ r ≡ absolute e n p ⌝ }
 {
     if n == 0 {
@@ -90,7 +90,7 @@ pub fn absolute(e: Entry, n: usize, p: Pointer) -> usize
 }
 
 // The record that a mode chooses, and 0 where there is none.
-pub fn chosen(e: Entry, n: usize, mode: usize, p: Pointer) -> usize
+fn chosen(e: Entry, n: usize, mode: usize, p: Pointer) -> usize
     ensures { λ r. ⌜ r ≡ chosen e n mode p ⌝ }
 {
     if mode == 2 {
@@ -103,7 +103,7 @@ pub fn chosen(e: Entry, n: usize, mode: usize, p: Pointer) -> usize
 }
 
 // Absolute and current leave the pointer.
-pub fn moved(mode: usize, k: usize, s: Session) -> Session
+fn moved(mode: usize, k: usize, s: Session) -> Session
     ensures { λ r. ⌜ r ≡ moved mode k s ⌝ }
 {
     if mode == 4 {
@@ -125,7 +125,7 @@ pub fn record_at(e: Entry, k: usize) -> usize
 }
 
 // The word of the first refusal of record k with n bytes, and 0 where none holds.
-pub fn of_record(r: Rights, e: Entry, a: Act, suits: bool, k: usize, n: usize) -> u16
+fn of_record(r: Rights, e: Entry, a: Act, suits: bool, k: usize, n: usize) -> u16
     ensures { λ w. ⌜ w ≡ first (ofRecord r e a suits k n) ⌝ }
 {
     let word = shared(r, e, a, suits);
@@ -173,7 +173,7 @@ pub fn read_record(
 }
 
 // A cyclic file takes only mode 03.
-pub fn updatable(mode: usize, e: Entry) -> bool
+fn updatable(mode: usize, e: Entry) -> bool
     ensures { λ b. ⌜ b ≡ updatable mode e ⌝ }
 {
     (e.structure != 0) & ((e.structure != 3) | (mode == 3))

@@ -25,7 +25,7 @@ ghost use Rattle.commands.specs.Gives.{Says};
 ghost use Rattle.commands_files.specs.Stands.{Stands};
 
 // The record i turns from one, up or down.
-pub fn along(up: bool, from: usize, i: usize) -> usize
+fn along(up: bool, from: usize, i: usize) -> usize
     requires { ⌜ (from + i < 65536) × (0 < along up from i) ⌝ }
     ensures { λ r. ⌜ r ≡ along up from i ⌝ }
 {
@@ -36,7 +36,7 @@ pub fn along(up: bool, from: usize, i: usize) -> usize
 }
 
 // How many records are passed before one starts with the pattern, and all of them where none does.
-pub fn find(b: &[u8], m: usize, pattern: &[u8], up: bool, from: usize, turns: usize) -> usize
+fn find(b: &[u8], m: usize, pattern: &[u8], up: bool, from: usize, turns: usize) -> usize
     requires { ⌜ Ranges (now b) m (length (now pattern)) up from turns ⌝ }
     ensures { λ r. ⌜ r ≡ find turns (λ i. matches (now (b .entry)) m (now (pattern .entry)) (along up from i)) ⌝ }
 {
@@ -58,7 +58,7 @@ pub fn find(b: &[u8], m: usize, pattern: &[u8], up: bool, from: usize, turns: us
 }
 
 // The first record from one to n that starts with the pattern, and 0 where none does.
-pub fn forward(b: &[u8], m: usize, pattern: &[u8], from: usize, n: usize) -> usize
+fn forward(b: &[u8], m: usize, pattern: &[u8], from: usize, n: usize) -> usize
     requires { ⌜ (length (now pattern) ≤ m) × ((n * m ≤ length (now b)) × ((0 < from) × (n < 256))) ⌝ }
     ensures { λ r. ⌜ (r ≡ forward (now (b .entry)) m (now (pattern .entry)) from n) × (r ≤ n) ⌝ }
 {
@@ -74,7 +74,7 @@ pub fn forward(b: &[u8], m: usize, pattern: &[u8], from: usize, n: usize) -> usi
 }
 
 // The last record from one down to 1 that starts with the pattern, and 0 where none does.
-pub fn backward(b: &[u8], m: usize, pattern: &[u8], from: usize) -> usize
+fn backward(b: &[u8], m: usize, pattern: &[u8], from: usize) -> usize
     requires { ⌜ (length (now pattern) ≤ m) × ((from * m ≤ length (now b)) × (from < 256)) ⌝ }
     ensures { λ r. ⌜ (r ≡ backward (now (b .entry)) m (now (pattern .entry)) from) × (r ≤ from) ⌝ }
 {
@@ -86,7 +86,7 @@ pub fn backward(b: &[u8], m: usize, pattern: &[u8], from: usize) -> usize
 }
 
 // The record that a mode finds among n, and 0 where none matches.
-pub fn sought(b: &[u8], m: usize, n: usize, pattern: &[u8], mode: usize, p: Pointer) -> usize
+fn sought(b: &[u8], m: usize, n: usize, pattern: &[u8], mode: usize, p: Pointer) -> usize
     requires { ⌜ (length (now pattern) ≤ m) × ((n * m ≤ length (now b)) × (n < 256)) ⌝ }
     requires { ⌜ ((k : ℕ) → p ≡ Pointer.At k → k ≤ n) ⌝ }
     ensures { λ r. ⌜ (r ≡ sought (now (b .entry)) m n (now (pattern .entry)) mode p) × (r ≤ n) ⌝ }

@@ -55,7 +55,7 @@ pub fn tell_status(told: [u8; 22], s: Session, n: usize, room: &mut [u8]) -> Rep
 }
 
 // The pointer of a file just selected.
-pub fn first_pointer(e: Entry) -> Pointer
+fn first_pointer(e: Entry) -> Pointer
     ensures { λ p. ⌜ p ≡ firstPointer e ⌝ }
 {
     if e.structure == 3 {

@@ -7,11 +7,11 @@ use borrow.Author.Needs.{needs}
 use Rattle.acts_codes.proofs.change.Statement.{statement}
 use Rattle.acts_codes.proofs.change.Tie as tie
 
-mul-at : tie.Need-mul-at
-mul-at c = search needs
+mul-from : tie.Need-mul-from
+mul-from c = search needs
 
-add-at : tie.Need-add-at
-add-at c = search needs
+add-from : tie.Need-add-from
+add-from c = search needs
 
 add-end : tie.Need-add-end
 add-end c = search needs
@@ -42,8 +42,8 @@ pub change-spec : {M : Type 1} → statement M
 change-spec =
     tie.close
     (tie.spec
-    mul-at
-    add-at
+    mul-from
+    add-from
     add-end
     sub-change
     part-change-start

@@ -7,11 +7,11 @@ use borrow.Author.Needs.{needs}
 use Rattle.acts_codes.proofs.unblock.Statement.{statement}
 use Rattle.acts_codes.proofs.unblock.Tie as tie
 
-mul-at : tie.Need-mul-at
-mul-at c = search needs
+mul-start : tie.Need-mul-start
+mul-start c = search needs
 
-add-at : tie.Need-add-at
-add-at c = search needs
+add-start : tie.Need-add-start
+add-start c = search needs
 
 add-end : tie.Need-add-end
 add-end c = search needs
@@ -42,8 +42,8 @@ pub unblock-spec : {M : Type 1} → statement M
 unblock-spec =
     tie.close
     (tie.spec
-    mul-at
-    add-at
+    mul-start
+    add-start
     add-end
     sub-unblock
     part-unblock-start

@@ -35,7 +35,7 @@ returns : tie.Need-returns
 unfolding keyed
 returns c =
     let a = c .before .before .before .before .before .before .before .before .before .before .before .args in
-    changes (now (a .e)) (a .s) (a .c) (now (a .given)) _ _ _ _ (c .before .before .before .before .before .before .before .code .ensures) _ _ refl (rest (now (a .given))) (c .before .before .before .disabled .ensures) (c .before .before .tested .ensures)
+    changes (now (a .e)) (a .s) (a .c) (now (a .given)) _ _ _ _ (c .before .before .before .before .before .before .before .code .ensures) _ _ refl (rest (now (a .given))) (c .before .before .before .before .disabled .ensures) (c .before .before .tested .ensures)
 
 pub change-spec : {M : Type 1} → statement M
 change-spec =

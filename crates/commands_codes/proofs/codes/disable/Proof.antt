@@ -29,7 +29,7 @@ returns : tie.Need-returns
 unfolding keyed
 returns c =
     let a = c .before .before .before .before .before .before .before .before .before .before .before .args in
-    disables (now (a .e)) (a .s) (a .c) (now (a .given)) _ _ _ _ (c .before .before .before .before .before .before .before .code .ensures) _ refl (c .before .before .before .disabled .ensures) (c .before .before .tested .ensures)
+    disables (now (a .e)) (a .s) (a .c) (now (a .given)) _ _ _ _ (c .before .before .before .before .before .before .before .code .ensures) _ refl (c .before .before .before .before .disabled .ensures) (c .before .before .tested .ensures)
 
 pub disable-spec : {M : Type 1} → statement M
 disable-spec =

@@ -27,7 +27,7 @@ returns : tie.Need-returns
 unfolding keyed
 returns c =
     let a = c .before .before .before .before .before .before .before .before .before .before .before .args in
-    enables (now (a .e)) (a .s) (a .c) (now (a .given)) _ _ _ _ (c .before .before .before .before .before .before .before .code .ensures) _ refl (ap not (c .before .before .before .disabled .ensures)) (c .before .before .tested .ensures)
+    enables (now (a .e)) (a .s) (a .c) (now (a .given)) _ _ _ _ (c .before .before .before .before .before .before .before .code .ensures) _ refl (ap not (c .before .before .before .before .disabled .ensures)) (c .before .before .tested .ensures)
 
 pub enable-spec : {M : Type 1} → statement M
 enable-spec =

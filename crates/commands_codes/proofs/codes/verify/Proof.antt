@@ -22,7 +22,7 @@ returns : tie.Need-returns
 unfolding keyed
 returns c =
     let a = c .before .before .before .before .before .before .before .before .before .args in
-    verifies (now (a .e)) (a .s) (a .c) (now (a .given)) _ _ _ _ (c .before .before .before .before .before .code .ensures) (c .before .before .before .disabled .ensures) (c .before .before .tested .ensures)
+    verifies (now (a .e)) (a .s) (a .c) (now (a .given)) _ _ _ _ (c .before .before .before .before .before .code .ensures) (c .before .before .before .before .disabled .ensures) (c .before .before .tested .ensures)
 
 pub verify-spec : {M : Type 1} → statement M
 verify-spec =

@@ -26,8 +26,8 @@ dropped-requires c κs = search needs
 silent-requires : tie.Need-silent-requires
 silent-requires c κs = search needs
 
-sub-t10 : tie.Need-sub-t10
-sub-t10 c =
+sub-status : tie.Need-sub-status
+sub-status c =
     let a = c .before .before .before .before .before .args in
     lowers (a .r) (a .e) (a .s) _ (c .before .before .before .before .shared .ensures) (c .before .before .before .if1 .left)
 
@@ -46,5 +46,5 @@ invalidate-spec =
     returns
     dropped-requires
     silent-requires
-    sub-t10
+    sub-status
     returns-2)

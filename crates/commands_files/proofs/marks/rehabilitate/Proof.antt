@@ -27,8 +27,8 @@ dropped-requires c κs = search needs
 silent-requires : tie.Need-silent-requires
 silent-requires c κs = search needs
 
-add-t10 : tie.Need-add-t10
-add-t10 c =
+add-status : tie.Need-add-status
+add-status c =
     let a = c .before .before .before .before .before .args in
     record { fits = raises (a .r) (a .e) (a .s) _ (c .before .before .before .before .shared .ensures) (c .before .before .before .if1 .left) (omega arith) }
 
@@ -47,5 +47,5 @@ rehabilitate-spec =
     returns
     dropped-requires
     silent-requires
-    add-t10
+    add-status
     returns-2)
