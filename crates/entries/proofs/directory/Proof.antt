@@ -1,10 +1,10 @@
--- `shelf_check::entries::directory_at` meets its contract: the bytes are those of the entry, and two words are made of two each.
+-- `entries::directory` meets its contract: the bytes are those of the entry, and two words are made of two each.
 use mathlib.Core.Path.{refl}
 use native.Mathlib.Omega.{arith}
-use Rattle.shelf_check.proofs.Whole.{word-of, directory-of}
+use Rattle.entries.proofs.Whole.{word-of, directory-of}
 use borrow.Author.Needs.{needs}
-use Rattle.shelf_check.proofs.entries.directory_at.Statement.{statement}
-use Rattle.shelf_check.proofs.entries.directory_at.Tie as tie
+use Rattle.entries.proofs.directory.Statement.{statement}
+use Rattle.entries.proofs.directory.Tie as tie
 
 shared-slice-read-join : tie.Need-shared-slice-read-join
 shared-slice-read-join c = search needs
@@ -60,8 +60,8 @@ shared-slice-read-t27 c = search needs
 returns : tie.Need-returns
 returns c = directory-of _ _ _ _ (word-of _ _ _ _ refl (c .before .before .before .before .before .before .before .join .ensures)) (word-of _ _ _ _ (omega arith) (c .before .before .join2 .ensures))
 
-pub directory-at-spec : {M : Type 1} → statement M
-directory-at-spec =
+pub directory-spec : {M : Type 1} → statement M
+directory-spec =
     tie.close
     (tie.spec
     shared-slice-read-join

@@ -1,10 +1,10 @@
--- `shelf_check::entries::file_at` meets its contract: the bytes are those of the entry, and two words are made of two each.
+-- `entries::file` meets its contract: the bytes are those of the entry, and two words are made of two each.
 use mathlib.Core.Path.{refl}
 use native.Mathlib.Omega.{arith}
-use Rattle.shelf_check.proofs.Whole.{word-of, file-of}
+use Rattle.entries.proofs.Whole.{word-of, file-of}
 use borrow.Author.Needs.{needs}
-use Rattle.shelf_check.proofs.entries.file_at.Statement.{statement}
-use Rattle.shelf_check.proofs.entries.file_at.Tie as tie
+use Rattle.entries.proofs.file.Statement.{statement}
+use Rattle.entries.proofs.file.Tie as tie
 
 shared-slice-read-join : tie.Need-shared-slice-read-join
 shared-slice-read-join c = search needs
@@ -96,8 +96,8 @@ shared-slice-read-t45 c = search needs
 returns : tie.Need-returns
 returns c = file-of _ _ _ _ (word-of _ _ _ _ refl (c .before .before .before .before .before .before .before .before .before .before .before .before .before .join .ensures)) (word-of _ _ _ _ (omega arith) (c .before .before .join2 .ensures))
 
-pub file-at-spec : {M : Type 1} → statement M
-file-at-spec =
+pub file-spec : {M : Type 1} → statement M
+file-spec =
     tie.close
     (tie.spec
     shared-slice-read-join

@@ -1,8 +1,10 @@
-// Entries of a section that is whole: no byte's place is tested.
+// Words and entries of an image whose bytes are all there: no byte's place is tested. Only this player's crates call these.
 ghost use mathlib.Core.Path.{_≡_};
 ghost use Prim.Native.Nat.{_+_, _*_, _≤_};
 ghost use lib.ListN.{length};
-ghost use Rattle.card.specs.Layout.{directoryEntry, fileEntry};
+ghost use Rattle.card.specs.Bytes.{word};
+ghost use Rattle.card.specs.Layout.{codeEntry, directoryEntry, fileEntry};
+use card::Code;
 use card::Directory;
 use card::Entry;
 
@@ -13,8 +15,29 @@ fn join(high: u8, low: u8) -> u16
     (high as u16) * 256 + (low as u16)
 }
 
-// The directory's entry at a place where all of it stands.
-pub fn directory_at(l: &[u8], at: usize) -> Directory
+// The two bytes at a place.
+pub fn word(l: &[u8], at: usize) -> u16
+    requires { ⌜ at + 2 ≤ length (now l) ⌝ }
+    ensures { λ r. ⌜ r ≡ word (now (l .entry)) at ⌝ }
+{
+    join(l[at], l[at + 1])
+}
+
+// The code's entry at a place, but for the two codes themselves.
+pub fn code(l: &[u8], at: usize) -> Code
+    requires { ⌜ at + 4 ≤ length (now l) ⌝ }
+    ensures { λ r. ⌜ r ≡ codeEntry (now (l .entry)) at ⌝ }
+{
+    Code {
+        flags: l[at],
+        attempts: l[at + 1],
+        unblocks: l[at + 2],
+        spare: l[at + 3],
+    }
+}
+
+// The directory's entry at a place.
+pub fn directory(l: &[u8], at: usize) -> Directory
     requires { ⌜ at + 8 ≤ length (now l) ⌝ }
     ensures { λ r. ⌜ r ≡ directoryEntry (now (l .entry)) at ⌝ }
 {
@@ -28,8 +51,8 @@ pub fn directory_at(l: &[u8], at: usize) -> Directory
     }
 }
 
-// The file's entry at a place where all of it stands.
-pub fn file_at(l: &[u8], at: usize) -> Entry
+// The file's entry at a place.
+pub fn file(l: &[u8], at: usize) -> Entry
     requires { ⌜ at + 14 ≤ length (now l) ⌝ }
     ensures { λ r. ⌜ r ≡ fileEntry (now (l .entry)) at ⌝ }
 {
