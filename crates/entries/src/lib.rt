@@ -42,10 +42,10 @@ pub fn directory(l: &[u8], at: usize) -> Directory
     ensures { λ r. ⌜ r ≡ directoryEntry (now (l .entry)) at ⌝ }
 {
     Directory {
-        identifier: join(l[at], l[at + 1]),
+        identifier: word(l, at),
         parent: l[at + 2],
         characteristics: l[at + 3],
-        memory: join(l[at + 4], l[at + 5]),
+        memory: word(l, at + 4),
         codes: l[at + 6],
         spare: l[at + 7],
     }
@@ -57,7 +57,7 @@ pub fn file(l: &[u8], at: usize) -> Entry
     ensures { λ r. ⌜ r ≡ fileEntry (now (l .entry)) at ⌝ }
 {
     Entry {
-        identifier: join(l[at], l[at + 1]),
+        identifier: word(l, at),
         home: l[at + 2],
         structure: l[at + 3],
         width: l[at + 4],
@@ -66,7 +66,7 @@ pub fn file(l: &[u8], at: usize) -> Entry
         access2: l[at + 7],
         access3: l[at + 8],
         status: l[at + 9],
-        size: join(l[at + 10], l[at + 11]),
+        size: word(l, at + 10),
         top: l[at + 12],
         spare: l[at + 13],
     }
