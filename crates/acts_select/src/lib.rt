@@ -6,7 +6,6 @@ use commands_select::select::select_file;
 use commands_select::select::select_nothing;
 use commands_select::select::tell_status;
 use shelf::read;
-use shelf::tell;
 ghost use mathlib.Core.List.{List};
 ghost use Prim.Native.Nat.{ℕ, _≤_};
 ghost use lib.ListN.{length};
@@ -24,15 +23,15 @@ pub fn select(image: &[u8], s: Session, id: u16) -> Reply
     let i = read::index(image);
     let store = i.store;
     let head = &image[..store];
-    let d = tell::find_directory(head, i, s.directory, id);
+    let d = shelf_find::find_directory(head, i, s.directory, id);
     if d < i.directories {
-        let told = tell::directory_response(head, i, d);
+        let told = shelf_tell::directory_response(head, i, d);
         return select_directory(d, told, s);
     }
-    let f = tell::find_file(head, i, s.directory, id);
+    let f = shelf_find::find_file(head, i, s.directory, id);
     if f < i.files {
         let e = read::file(head, i, f);
-        let told = tell::file_response(e);
+        let told = shelf_tell::file_response(e);
         return select_file(f, e, told, s);
     }
     select_nothing(s)
@@ -46,6 +45,6 @@ pub fn status(image: &[u8], s: Session, n: usize, room: &mut [u8]) -> Reply
 {
     let i = read::index(image);
     let store = i.store;
-    let told = tell::directory_response(&image[..store], i, s.directory);
+    let told = shelf_tell::directory_response(&image[..store], i, s.directory);
     tell_status(told, s, n, room)
 }

@@ -1,5 +1,5 @@
 // One command on an image, a session and a room.
-pub mod perform;
+mod perform;
 
 use card::Answer;
 use card::Session;

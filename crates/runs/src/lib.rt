@@ -9,13 +9,15 @@ use shelf::read::index;
 use shelf_check::is_image;
 use shelf_check::session_fits;
 ghost use mathlib.Core.Path.{_≡_};
-ghost use mathlib.Core.Bool.{true};
+ghost use mathlib.Core.Bool.{true, _&&_};
 ghost use lib.ListN.{length};
 ghost use Rattle.acts.specs.Ready.{Ready};
 ghost use Prim.Native.Nat.{_<_};
 ghost use Rattle.card.specs.Answers.{number};
+ghost use Rattle.card.specs.Layout.{head};
 ghost use Rattle.card.specs.Play.{play};
-ghost use Rattle.card.specs.Sessions.{reset};
+ghost use Rattle.card.specs.Sessions.{reset, fits};
+ghost use Rattle.card.specs.Shelf.{isImage};
 ghost use Rattle.player.specs.Ends.{Ends};
 
 // Master file, no EF, undefined, no marks, nothing waiting.
@@ -46,8 +48,9 @@ pub fn number(a: Answer) -> u8
     }
 }
 
-// Whether these bytes are an image that the session fits. Where they are not, nothing is promised of later commands, and each is tested.
+// Whether these bytes are an image that the session fits: exactly then the commands that follow need no test.
 pub fn tested(image: &[u8], session: Session) -> bool
+    ensures { λ r. ⌜ r ≡ (isImage (now (image .entry)) && fits (head (now (image .entry))) session) ⌝ }
     ensures { λ r. ⌜ (r ≡ true → Ready (now (image .entry)) session) ⌝ }
 {
     if !is_image(image) {

@@ -1,4 +1,3 @@
 pub mod Past
 pub mod Loops
 pub mod Heading
-pub mod Told

@@ -1,4 +1,3 @@
-pub mod Whole
 pub mod Words
 pub mod Keys
 pub mod OneEntry

@@ -2,25 +2,31 @@
 use Prim.Native.Nat.{ℕ, _+_, _*_, _-_, _<_, _≤_}
 use mathlib.Core.Path.{_≡_, refl, sym, ap, _∙_}
 use mathlib.Core.List.{List}
+use mathlib.Core.Logic.{_⊎_, inl, inr}
 use mathlib.Core.Bool.{Bool, true, false, _&&_, not, and-true, and-false, and-assoc}
 use native.Mathlib.Numerals.{add-one}
 use native.Mathlib.Omega.{arith}
-use borrow.Author.Tests.{not-true, not-false, eqb-true, eq-eqb, leb-true, le-leb, lt-leb}
+use borrow.Author.Tests.{not-true, not-false, eqb-true, eq-eqb, ltb-true, lt-ltb, leb-true, le-leb, lt-leb}
 use lib.ListN.{length}
 use lib.Dec.{eqb, leb, ltb}
 use Rattle.card.specs.Bytes.{word, every}
 use Rattle.card.specs.Layout.{index, code, directoryEntry, directory, fileEntry, file, sizes}
-use Rattle.card.specs.Shelf.{all, codeRules, directoryRules, fileRules, codesSound, directoriesSound, filesSound, bytesSound, isImage}
+use Rattle.card.specs.Shelf.{all, codeRules, codesSound, directoriesSound, filesSound, bytesSound, isImage}
 use Rattle.card.specs.declared.Index.{Index}
 use Rattle.card.specs.declared.Code.{Code}
 use Rattle.card.specs.declared.Directory.{Directory}
 use Rattle.card.specs.declared.Entry.{Entry}
-use Rattle.card.proofs.Places.{directory-place, file-place}
-use Rattle.card.proofs.Tests.{both, joint, same-test, all-at}
+use Rattle.card.specs.Images.{Image}
+use Rattle.card.proofs.Images.{image}
+use Rattle.card.proofs.Places.{code-place, directory-place, file-place, sections-place, store-inside}
+use Rattle.card.proofs.Tests.{both, joint, same-test, decided, apart}
+use Rattle.shelf.specs.Reads.{Indexed}
 use Rattle.shelf.proofs.Loops.{every-not}
+use Rattle.shelf_check.specs.Whole.{Whole}
 use Rattle.shelf_check.specs.Tallies.{tally}
 use Rattle.shelf_check.specs.declared.check.Tally.{Tally}
 use Rattle.shelf_check.specs.declared.check.Tally.the-variants.{Unsound, Sum}
+use Rattle.shelf_check.proofs.Directories.{directoryKeeps}
 use Rattle.shelf_check.proofs.Files.{fileKeeps}
 
 -- a negated test of a result, as a fact of what the result says
@@ -78,83 +84,137 @@ module _ (l : List ℕ) (n : ℕ) where
     unfolding tally
     tally-is x e = sound (every n (fileKeeps l)) (sizes l n) x (sym is ∙ e)
 
-pub directories-tested : (n t k : ℕ) → (ltb 0 n && leb n 32 && leb t k) ≡ true → (n ≤ 32) × (t ≤ k)
-directories-tested n t k h =
-    let p = both (ltb 0 n && leb n 32) (leb t k) h in
-    (leb-true n 32 (both (ltb 0 n) (leb n 32) (p .0) .1), leb-true t k (p .1))
+-- The counts and the length are tested first: where they fail this is no image, and where they hold the sections are all there.
+module _ (l : List ℕ) (i : Index) (n : Indexed l i) where
+  is : i ≡ index l
+  is = n .is
 
-pub files-tested : (n t k : ℕ) → (leb n 200 && leb t k) ≡ true → t ≤ k
-files-tested n t k h = leb-true t k (both (leb n 200) (leb t k) h .1)
+  abbrev tested : Bool
+  tested = eqb (i .codes) 2 && ltb 0 (i .directories) && leb (i .directories) 32 && leb (i .files) 200 && leb (i .store) (length l)
 
-module _ (l : List ℕ) (i : Index) (is : i ≡ index l) where
-  pub few : i .directories ≤ 32 → index l .directories ≤ 32
-  few h = rw (← is) h
+  pub is-whole : tested ≡ true → Whole l i
+  is-whole t =
+      let a = both (eqb (i .codes) 2 && ltb 0 (i .directories) && leb (i .directories) 32 && leb (i .files) 200) _ t in
+      let b = both (eqb (i .codes) 2 && ltb 0 (i .directories) && leb (i .directories) 32) _ (a .0) in
+      let c = both (eqb (i .codes) 2 && ltb 0 (i .directories)) _ (b .0) in
+      let d = both (eqb (i .codes) 2) _ (c .0) in
+      record {
+        indexed = n;
+        codes = eqb-true _ _ (d .0);
+        some = ltb-true _ _ (d .1);
+        directories = leb-true _ _ (c .1);
+        files = leb-true _ _ (b .1);
+        all = leb-true _ _ (a .1);
+      }
+
+  passes : Image l → tested ≡ true
+  passes m =
+      let k : i .codes ≡ 2 = rw is (m .codes) in
+      let a : 0 < i .directories = rw is (m .rooted) in
+      let b : i .directories ≤ 32 = rw is (m .directories) in
+      let c : i .files ≤ 200 = rw is (m .files) in
+      let d : i .store ≤ length l = rw is (store-inside l m) in
+      joint (joint (joint (joint (eq-eqb _ _ k) (lt-ltb _ _ a)) (le-leb _ _ b)) (le-leb _ _ c)) (le-leb _ _ d)
+
+  pub not-whole : tested ≡ false → false ≡ isImage l
+  not-whole f = go (decided (isImage l))
+    where
+      go : (isImage l ≡ true) ⊎ (isImage l ≡ false) → false ≡ isImage l
+      go (inl t) = apart (passes (image l t)) f
+      go (inr e) = sym e
+
+module _ (l : List ℕ) (i : Index) (w : Whole l i) where
+  index-is : i ≡ index l
+  index-is = w .indexed .is
+
+  store-here : index l .store ≤ length l
+  store-here = rw (← index-is) (w .all)
 
   -- an entry that was read at its place, which lies inside
   pub directory-read : (d : ℕ) (e : Directory) → e ≡ directoryEntry l (i .tree + 8 * d) → e ≡ directory l d
   unfolding directory
-  directory-read d e h = h ∙ ap (λ (x : Index). directoryEntry l (x .tree + 8 * d)) is
+  directory-read d e h = h ∙ ap (λ (x : Index). directoryEntry l (x .tree + 8 * d)) index-is
 
   pub file-read : (f : ℕ) (e : Entry) → e ≡ fileEntry l (i .table + 14 * f) → e ≡ file l f
   unfolding file
-  file-read f e h = h ∙ ap (λ (x : Index). fileEntry l (x .table + 14 * f)) is
+  file-read f e h = h ∙ ap (λ (x : Index). fileEntry l (x .table + 14 * f)) index-is
 
-  pub directory-inside : (d : ℕ) → d < i .directories → i .table - 2 ≤ length l → i .tree + 8 * d + 8 ≤ length l
-  directory-inside = rw is (λ d lt h. let p = directory-place l d lt in omega arith)
+  pub codes-inside : 42 ≤ length l
+  codes-inside =
+      let c : index l .codes ≡ 2 = rw (← index-is) (w .codes) in
+      let p = code-place l 1 (omega arith) in
+      let q = sections-place l in
+      let h = store-here in
+      omega arith
 
-  pub file-inside : (f : ℕ) → f < i .files → i .store - 2 ≤ length l → i .table + 14 * f + 14 ≤ length l
-  file-inside = rw is (λ f lt h. let p = file-place l f lt in omega arith)
+  pub directory-inside : (d : ℕ) → d < i .directories → i .tree + 8 * d + 8 ≤ length l
+  directory-inside =
+      rw index-is
+      (λ d lt. let p = directory-place l d lt in let q = sections-place l in let h = store-here in omega arith)
+
+  pub file-inside : (f : ℕ) → f < i .files → i .table + 14 * f + 14 ≤ length l
+  file-inside = rw index-is (λ f lt. let p = file-place l f lt in let h = store-here in omega arith)
+
+  pub few : index l .directories ≤ 32
+  few = rw (← index-is) (w .directories)
+
+  -- what is left of each section once its count and its length are tested
+  sections-here : (index l .tree - 2 ≤ length l) × ((index l .table - 2 ≤ length l) × (index l .store - 2 ≤ length l))
+  sections-here = let q = sections-place l in let h = store-here in (omega arith, (omega arith, omega arith))
+
+  codes-counted : (eqb (index l .codes) 2 ≡ true) × (leb (index l .tree - 2) (length l) ≡ true)
+  codes-counted =
+      let k : index l .codes ≡ 2 = rw (← index-is) (w .codes) in
+      (eq-eqb _ _ k, le-leb _ _ (sections-here .0))
+
+  directories-counted : (ltb 0 (index l .directories) ≡ true) × ((leb (index l .directories) 32 ≡ true) × (leb (index l .table - 2) (length l) ≡ true))
+  directories-counted =
+      let k : 0 < index l .directories = rw (← index-is) (w .some) in
+      (lt-ltb _ _ k, (le-leb _ _ few, le-leb _ _ (sections-here .1 .0)))
+
+  files-counted : (leb (index l .files) 200 ≡ true) × (leb (index l .store - 2) (length l) ≡ true)
+  files-counted =
+      let k : index l .files ≤ 200 = rw (← index-is) (w .files) in
+      (le-leb _ _ k, le-leb _ _ (sections-here .1 .1))
 
   pub codes-sound : (k k′ : Code) (r r′ : Bool)
       → k ≡ code l 0
       → r ≡ all (codeRules 0 k)
       → k′ ≡ code l 1
       → r′ ≡ all (codeRules 1 k′)
-      → (eqb (i .codes) 2 && leb (i .tree - 2) (length l) && (r && r′)) ≡ codesSound l
+      → (r && r′) ≡ codesSound l
   unfolding codesSound every all
-  codes-sound k k′ r r′ c d c′ d′ = simp (codesSound, all, and-true, and-assoc, d, d′, c, c′, is)
+  codes-sound k k′ r r′ c d c′ d′ =
+      simp (codesSound, all, and-true, and-assoc, codes-counted .0, codes-counted .1, d, d′, c, c′)
 
-  pub directories-sound : (r : Bool)
-      → (ltb 0 (i .directories) && leb (i .directories) 32 && leb (i .table - 2) (length l)) ≡ true
-      → r ≡ every (i .directories) (λ d. all (directoryRules l d (directory l d)))
-      → r ≡ directoriesSound l
+  pub directories-sound : (r : Bool) → r ≡ every (i .directories) (directoryKeeps l) → r ≡ directoriesSound l
   unfolding directoriesSound all
-  directories-sound r t e = e ∙ simp (directoriesSound, all, and-true, ← and-assoc, ← is, t)
+  directories-sound r e =
+      simp (e, directoriesSound, all, and-true, directories-counted .0, directories-counted .1 .0, directories-counted .1 .1, index-is)
 
-  pub directories-unsound
-      : (ltb 0 (i .directories) && leb (i .directories) 32 && leb (i .table - 2) (length l)) ≡ false
-      → false ≡ directoriesSound l
-  unfolding directoriesSound all
-  directories-unsound t = simp (directoriesSound, all, and-true, ← and-assoc, ← is, t)
-
-  -- the last two sections: the table of files is not whole, a file breaks a rule, or the bytes decide
-  module _ (here : (leb (i .files) 200 && leb (i .store - 2) (length l)) ≡ true) where
-    files-by : filesSound l ≡ every (i .files) (fileKeeps l)
-    unfolding filesSound all
-    files-by = simp (filesSound, all, and-true, ← and-assoc, ← is, here)
-
-    pub files-fail : every (i .files) (fileKeeps l) ≡ false → false ≡ (filesSound l && bytesSound l)
-    files-fail h = sym (ap (λ t. t && bytesSound l) (files-by ∙ h))
-
-    pub files-then : (r : Bool) → every (i .files) (fileKeeps l) ≡ true → r ≡ bytesSound l → r ≡ (filesSound l && bytesSound l)
-    files-then r h e = e ∙ sym (ap (λ t. t && bytesSound l) (files-by ∙ h))
-
-  pub files-cut : (leb (i .files) 200 && leb (i .store - 2) (length l)) ≡ false → false ≡ (filesSound l && bytesSound l)
+  -- the last two sections: a file breaks a rule, or the bytes decide
+  files-by : filesSound l ≡ every (i .files) (fileKeeps l)
   unfolding filesSound all
-  files-cut t = simp (filesSound, all, and-true, ← and-assoc, ← is, t)
+  files-by = simp (filesSound, all, and-true, files-counted .0, files-counted .1, index-is)
 
-  pub bytes-sound : (n w : ℕ)
+  pub files-fail : every (i .files) (fileKeeps l) ≡ false → false ≡ (filesSound l && bytesSound l)
+  files-fail h = sym (ap (λ t. t && bytesSound l) (files-by ∙ h))
+
+  pub files-then : (r : Bool) → every (i .files) (fileKeeps l) ≡ true → r ≡ bytesSound l → r ≡ (filesSound l && bytesSound l)
+  files-then r h e = e ∙ sym (ap (λ t. t && bytesSound l) (files-by ∙ h))
+
+  pub bytes-sound : (n x : ℕ)
       → n ≡ sizes l (i .files)
-      → w ≡ word l (i .store - 2)
+      → x ≡ word l (i .store - 2)
       → n ≤ 24576
-      → (eqb w n && eqb (length l) (i .store + n)) ≡ bytesSound l
+      → (eqb x n && eqb (length l) (i .store + n)) ≡ bytesSound l
   unfolding bytesSound all
-  bytes-sound n w e d few =
-      simp (same-count (length l) (i .store + n), bytesSound, all, and-true, ← is, ← e, d, le-leb _ _ few)
+  bytes-sound n x e d few =
+      simp (same-count (length l) (i .store + n), bytesSound, all, and-true, ← index-is, ← e, d, le-leb _ _ few)
 
   pub bytes-unsound : (n : ℕ) → n ≡ sizes l (i .files) → 24576 < n → false ≡ bytesSound l
   unfolding bytesSound all
-  bytes-unsound n e many = simp (bytesSound, all, ← is, ← e, lt-leb _ _ many, and-false)
+  bytes-unsound n e many = simp (bytesSound, all, ← index-is, ← e, lt-leb _ _ many, and-false)
 
 module _ (l : List ℕ) where
   pub no-codes : codesSound l ≡ false → false ≡ isImage l
@@ -168,7 +228,3 @@ module _ (l : List ℕ) where
   pub image-if : (r : Bool) → codesSound l ≡ true → directoriesSound l ≡ true → r ≡ (filesSound l && bytesSound l) → r ≡ isImage l
   unfolding isImage all
   image-if r a b e = simp (isImage, all, and-true, a, b, e)
-
-  pub few-directories : directoriesSound l ≡ true → index l .directories ≤ 32
-  unfolding directoriesSound
-  few-directories h = leb-true _ _ (all-at _ h 1)

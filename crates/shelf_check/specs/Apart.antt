@@ -2,7 +2,7 @@
 -- own rules it is known by the number of its directory, below 32, and the low byte of its identifier.
 use Prim.Native.Nat.{ℕ, _+_, _*_, _%_}
 use mathlib.Core.List.{List, []}
-use mathlib.Core.Bool.{Bool, true, false}
+use mathlib.Core.Bool.{Bool, true, false, _&&_}
 use lib.Dec.{eqb}
 use lib.ListN.{take, drop, set}
 use Rattle.card.specs.Shelf.{all, directoryRules, fileRules}
@@ -20,15 +20,9 @@ ownDirectory l d e = without 6 (directoryRules l d e)
 unfoldable pub ownFile : List ℕ → Entry → Bool
 ownFile l e = without 4 (fileRules l 0 e)
 
--- A file's rules in three parts: where it lies, its size and records, and its other bytes. Only the first speaks of the image.
-unfoldable pub homeRules : List ℕ → Entry → Bool
-homeRules l e = all (take 4 (fileRules l 0 e))
-
-unfoldable pub shapeRules : Entry → Bool
-shapeRules e = all (drop 5 (fileRules [] 0 e))
-
-unfoldable pub byteRules : Entry → Bool
-byteRules e = all (drop 7 (fileRules [] 0 e))
+-- a file's rules but for where it lies, its structure and twins: no other entry, and nothing of the image, counts there
+unfoldable pub otherRules : Entry → Bool
+otherRules e = all (take 1 (drop 2 (fileRules [] 0 e))) && all (drop 5 (fileRules [] 0 e))
 
 -- The master file stands in no directory. Number 31, which is too high for a parent, stands for that.
 unfoldable pub directoryKey : ℕ → Directory → ℕ

@@ -1,3 +1,4 @@
 pub mod Marks
 pub mod Apart
 pub mod Tallies
+pub mod Whole

@@ -43,10 +43,41 @@ pub fn stands(head: &[u8], i: Index, d: usize, c: Current, p: Pointer) -> bool
     }
 }
 
+// Nothing waits, as after most commands, and all is zero: one test, without a loop.
+fn blank(waiting: [u8; 22]) -> bool
+    ensures { λ r. ⌜ r ≡ padded waiting 0 ⌝ }
+{
+    (waiting[0] == 0)
+        & (waiting[1] == 0)
+        & (waiting[2] == 0)
+        & (waiting[3] == 0)
+        & (waiting[4] == 0)
+        & (waiting[5] == 0)
+        & (waiting[6] == 0)
+        & (waiting[7] == 0)
+        & (waiting[8] == 0)
+        & (waiting[9] == 0)
+        & (waiting[10] == 0)
+        & (waiting[11] == 0)
+        & (waiting[12] == 0)
+        & (waiting[13] == 0)
+        & (waiting[14] == 0)
+        & (waiting[15] == 0)
+        & (waiting[16] == 0)
+        & (waiting[17] == 0)
+        & (waiting[18] == 0)
+        & (waiting[19] == 0)
+        & (waiting[20] == 0)
+        & (waiting[21] == 0)
+}
+
 // At most 22 bytes wait, and the rest is zero.
 pub fn padded(waiting: [u8; 22], count: usize) -> bool
     ensures { λ r. ⌜ r ≡ padded waiting count ⌝ }
 {
+    if count == 0 {
+        return blank(waiting);
+    }
     if 22 < count {
         return false;
     }

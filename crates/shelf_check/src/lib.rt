@@ -1,6 +1,5 @@
 // Tests an image of the shelf form, and whether a session fits it.
 mod check;
-mod entries;
 mod fit;
 mod marks;
 mod rules;
@@ -16,6 +15,9 @@ pub fn is_image(image: &[u8]) -> bool
     ensures { λ r. ⌜ r ≡ isImage (now (image .entry)) ⌝ }
 {
     let i = read::index(image);
+    if !check::whole(image, i) {
+        return false;
+    }
     if !check::codes_sound(image, i) {
         return false;
     }

@@ -1,25 +1,26 @@
 // The rules of one entry.
 ghost use mathlib.Core.Path.{_≡_};
+ghost use mathlib.Core.Bool.{_&&_};
 ghost use Prim.Native.Nat.{_<_, _/_, _%_};
+ghost use lib.Dec.{eqb, ltb, leb};
 ghost use Rattle.card.specs.Layout.{directory, records};
-ghost use Rattle.card.specs.Shelf.{all, codeRules, below, within, recordsRule, topRule};
-ghost use Rattle.shelf.specs.Reads.{Indexed};
-ghost use Rattle.shelf_check.specs.Apart.{ownDirectory, ownFile, homeRules, shapeRules, byteRules, directoryKey, fileKey};
+ghost use Rattle.card.specs.Shelf.{all, codeRules, below, within, recordsRule};
+ghost use Rattle.shelf_check.specs.Apart.{ownDirectory, ownFile, otherRules, directoryKey, fileKey};
+ghost use Rattle.shelf_check.specs.Whole.{Whole};
 use card::Code;
 use card::Directory;
 use card::Entry;
 use card::Index;
-use shelf::read;
 
 // A directory that starts 7F stands in one that starts 3F, and 5F in 7F.
-pub fn below(parent: u16, child: u16) -> bool
+fn below(parent: u16, child: u16) -> bool
     ensures { λ r. ⌜ r ≡ below parent child ⌝ }
 {
     ((parent == 0x3f) & (child == 0x7f)) | ((parent == 0x7f) & (child == 0x5f))
 }
 
 // The first byte of a file that stands in a directory.
-pub fn within(high: u16) -> u16
+fn within(high: u16) -> u16
     ensures { λ r. ⌜ r ≡ within high ⌝ }
 {
     if high == 0x3f {
@@ -40,26 +41,29 @@ pub fn code_rules(c: usize, k: Code) -> bool
 }
 
 // The first byte of a directory's identifier.
-pub fn first_byte(l: &[u8], i: Index, d: u8) -> u16
-    requires { ⌜ Indexed (now l) i ⌝ }
+fn first_byte(l: &[u8], i: Index, d: u8) -> u16
+    requires { ⌜ Whole (now l) i ⌝ }
+    requires { ⌜ d < i .directories ⌝ }
     ensures { λ r. ⌜ r ≡ directory (now (l .entry)) d .identifier / 256 ⌝ }
 {
-    read::word_at(l, i.tree + 8 * (d as usize)) / 256
+    entries::word(l, i.tree + 8 * (d as usize)) / 256
 }
 
 // Directory d, whose entry is e, but for twins.
 pub fn directory_rules(l: &[u8], i: Index, d: usize, e: Directory) -> bool
-    requires { ⌜ Indexed (now l) i ⌝ }
+    requires { ⌜ Whole (now l) i ⌝ }
+    requires { ⌜ d < i .directories ⌝ }
     ensures { λ r. ⌜ r ≡ ownDirectory (now (l .entry)) d e ⌝ }
 {
-    let root = d == 0;
+    let common = (e.characteristics < 128) & (e.spare == 0);
+    if d == 0 {
+        return common & (e.identifier == 0x3f00) & (e.parent == 0);
+    }
+    if d <= e.parent as usize {
+        return false;
+    }
     let up = first_byte(l, i, e.parent);
-    (e.characteristics < 128)
-        & (e.spare == 0)
-        & (!root | (e.identifier == 0x3f00))
-        & (!root | (e.parent == 0))
-        & (root | ((e.parent as usize) < d))
-        & (root | below(up, e.identifier / 256))
+    common & below(up, e.identifier / 256)
 }
 
 // What tells directory d from the others.
@@ -93,19 +97,8 @@ pub fn records(e: Entry) -> usize
     quotient(e.size as usize, e.width as usize)
 }
 
-// Top is below the number of records on a cyclic file, and 0 elsewhere.
-pub fn top_rule(e: Entry) -> bool
-    ensures { λ r. ⌜ r ≡ topRule e ⌝ }
-{
-    if e.structure == 3 {
-        (e.top as usize) < records(e)
-    } else {
-        e.top == 0
-    }
-}
-
-// A file's size by its structure.
-pub fn size_rule(e: Entry) -> bool
+// Record length 1 to 255, and 1 to 254 whole records.
+fn size_rule(e: Entry) -> bool
     ensures { λ r. ⌜ r ≡ recordsRule e ⌝ }
 {
     let size = e.size as usize;
@@ -114,55 +107,67 @@ pub fn size_rule(e: Entry) -> bool
     (0 < e.width) & (remainder(size, width) == 0) & (0 < n) & (n < 255)
 }
 
-// The increase byte, status, access and top.
-fn byte_rules(e: Entry) -> bool
-    ensures { λ r. ⌜ r ≡ byteRules e ⌝ }
+// Status and access, the same for every file.
+fn status_rules(e: Entry) -> bool
+    ensures { λ r. ⌜ r ≡ ((leb (e .status % 4) 1 && ltb (e .status) 8) && eqb (e .access2 % 16) 0) ⌝ }
 {
-    let cyclic = e.structure == 3;
-    ((e.increase == 0) | ((e.increase == 0x40) & cyclic & (e.width == 3)))
-        & ((e.status % 4 <= 1) & (e.status < 8))
-        & (e.access2 % 16 == 0)
-        & top_rule(e)
+    ((e.status % 4 <= 1) & (e.status < 8)) & (e.access2 % 16 == 0)
 }
 
-// A file's own bytes from its size on. A division is made only where there are records, and once.
-fn shape_rules(e: Entry) -> bool
-    ensures { λ r. ⌜ r ≡ shapeRules e ⌝ }
+// A file's other bytes, by its structure.
+fn transparent_rules(e: Entry) -> bool
+    requires { ⌜ e .structure ≡ 0 ⌝ }
+    ensures { λ r. ⌜ r ≡ otherRules e ⌝ }
 {
+    (e.spare == 0)
+        & ((0 < e.size) & (e.width == 0))
+        & (e.increase == 0)
+        & status_rules(e)
+        & (e.top == 0)
+}
+
+fn linear_rules(e: Entry) -> bool
+    requires { ⌜ e .structure ≡ 1 ⌝ }
+    ensures { λ r. ⌜ r ≡ otherRules e ⌝ }
+{
+    (e.spare == 0) & size_rule(e) & (e.increase == 0) & status_rules(e) & (e.top == 0)
+}
+
+fn cyclic_rules(e: Entry) -> bool
+    requires { ⌜ e .structure ≡ 3 ⌝ }
+    ensures { λ r. ⌜ r ≡ otherRules e ⌝ }
+{
+    (e.spare == 0)
+        & size_rule(e)
+        & ((e.increase == 0) | ((e.increase == 0x40) & (e.width == 3)))
+        & status_rules(e)
+        & ((e.top as usize) < records(e))
+}
+
+// A file, whose entry is e, but for twins. Where records have no length nothing is divided.
+pub fn file_rules(l: &[u8], i: Index, e: Entry) -> bool
+    requires { ⌜ Whole (now l) i ⌝ }
+    ensures { λ r. ⌜ r ≡ ownFile (now (l .entry)) e ⌝ }
+{
+    if i.directories <= e.home as usize {
+        return false;
+    }
+    if e.identifier / 256 != within(first_byte(l, i, e.home)) {
+        return false;
+    }
     if e.structure == 0 {
-        return ((0 < e.size) & (e.width == 0)) & byte_rules(e);
+        return transparent_rules(e);
     }
     if e.width == 0 {
         return false;
     }
-    if !size_rule(e) {
-        return false;
+    if e.structure == 1 {
+        return linear_rules(e);
     }
-    byte_rules(e)
-}
-
-// A file's directory, structure, zero and identifier.
-fn home_rules(l: &[u8], i: Index, e: Entry) -> bool
-    requires { ⌜ Indexed (now l) i ⌝ }
-    ensures { λ r. ⌜ r ≡ homeRules (now (l .entry)) e ⌝ }
-{
-    let up = first_byte(l, i, e.home);
-    let plain = e.structure == 0;
-    ((e.home as usize) < i.directories)
-        & (plain | (e.structure == 1) | (e.structure == 3))
-        & (e.spare == 0)
-        & (e.identifier / 256 == within(up))
-}
-
-// A file, whose entry is e, but for twins.
-pub fn file_rules(l: &[u8], i: Index, e: Entry) -> bool
-    requires { ⌜ Indexed (now l) i ⌝ }
-    ensures { λ r. ⌜ r ≡ ownFile (now (l .entry)) e ⌝ }
-{
-    if !home_rules(l, i, e) {
-        return false;
+    if e.structure == 3 {
+        return cyclic_rules(e);
     }
-    shape_rules(e)
+    false
 }
 
 // What tells a file from the others.

@@ -4,7 +4,8 @@ use mathlib.Core.Path.{sym, _∙_}
 use lib.Seq.{length-take-le}
 use denote.Ref.{now}
 use borrow.Author.Needs.{needs}
-use Rattle.player.proofs.Ways.{truly, inside, byHead}
+use Rattle.player.proofs.Ways.{truly, falsely, inside, byHead}
+use Rattle.runs.proofs.Tests.{no-image, by-session}
 use Rattle.runs.proofs.tested.Statement.{statement}
 use Rattle.runs.proofs.tested.Tie as tie
 
@@ -12,7 +13,9 @@ is-image-requires : tie.Need-is-image-requires
 is-image-requires c κs = search needs
 
 returns : tie.Need-returns
-returns c = λ k. absurd (false≢true k)
+returns c =
+    let a = c .before .before .before .args in
+    (no-image (now (a .image)) (a .session) (falsely _ (c .before .is-image .ensures) (c .if1 .taken)), λ k. absurd (false≢true k))
 
 index-requires : tie.Need-index-requires
 index-requires c κs = search needs
@@ -24,11 +27,11 @@ session-fits-requires : tie.Need-session-fits-requires
 session-fits-requires c κs = search needs
 
 returns-2 : tie.Need-returns-2
-returns-2 c = λ k.
-    record {
-      image = truly _ (c .before .before .before .before .is-image .ensures) (c .before .before .before .if1 .left);
-      session = sym (byHead (now (c .before .before .before .before .before .before .args .image)) (c .before .before .index .result) (c .before .before .index .ensures .is) (c .before .before .before .before .before .before .args .session) _ (c .session-fits .ensures)) ∙ k;
-    }
+returns-2 c =
+    let a = c .before .before .before .before .before .before .args in
+    let known = truly _ (c .before .before .before .before .is-image .ensures) (c .before .before .before .if1 .left) in
+    let fit = byHead (now (a .image)) (c .before .before .index .result) (c .before .before .index .ensures .is) (a .session) _ (c .session-fits .ensures) in
+    (by-session (now (a .image)) (a .session) _ known fit, λ k. record { image = known; session = sym fit ∙ k })
 
 pub tested-spec : {M : Type 1} → statement M
 tested-spec =

@@ -1,40 +1,49 @@
 -- `shelf::read::code` meets its contract: each field is the byte at its place.
-use native.Mathlib.Omega.{arith}
-use borrow.Author.Needs.{needs}
 use Rattle.card.specs.Layout.{codeEntry, code}
+use borrow.Author.Needs.{needs}
 use Rattle.shelf.proofs.read.code.Statement.{statement}
 use Rattle.shelf.proofs.read.code.Tie as tie
 
 mul-at : tie.Need-mul-at
-mul-at c = omega arith
+mul-at c = search needs
 
 add-at : tie.Need-add-at
-add-at c = omega arith
+add-at c = search needs
+
+add-if1 : tie.Need-add-if1
+add-if1 c = search needs
+
+code-requires : tie.Need-code-requires
+code-requires c κs = search needs
+
+returns : tie.Need-returns
+unfolding code codeEntry
+returns c = c .code .ensures
 
 byte-at-requires : tie.Need-byte-at-requires
 byte-at-requires c κs = search needs
 
 add-byte-at : tie.Need-add-byte-at
-add-byte-at c = omega arith
+add-byte-at c = search needs
 
 byte-at-requires-2 : tie.Need-byte-at-requires-2
 byte-at-requires-2 c κs = search needs
 
 add-byte-at-2 : tie.Need-add-byte-at-2
-add-byte-at-2 c = omega arith
+add-byte-at-2 c = search needs
 
 byte-at-requires-3 : tie.Need-byte-at-requires-3
 byte-at-requires-3 c κs = search needs
 
 add-byte-at-3 : tie.Need-add-byte-at-3
-add-byte-at-3 c = omega arith
+add-byte-at-3 c = search needs
 
 byte-at-requires-4 : tie.Need-byte-at-requires-4
 byte-at-requires-4 c κs = search needs
 
-returns : tie.Need-returns
+returns-2 : tie.Need-returns-2
 unfolding code codeEntry
-returns c =
+returns-2 c =
     λ i.
     record {
       flags = c .before .before .before .byte-at .ensures i;
@@ -49,6 +58,9 @@ code-spec =
     (tie.spec
     mul-at
     add-at
+    add-if1
+    code-requires
+    returns
     byte-at-requires
     add-byte-at
     byte-at-requires-2
@@ -56,4 +68,4 @@ code-spec =
     byte-at-requires-3
     add-byte-at-3
     byte-at-requires-4
-    returns)
+    returns-2)

@@ -8,36 +8,18 @@ use borrow.Author.Needs.{needs}
 use Rattle.shelf.proofs.read.file_identifier.Statement.{statement}
 use Rattle.shelf.proofs.read.file_identifier.Tie as tie
 
-mul-at : tie.Need-mul-at
-mul-at c = search needs
+mul-word : tie.Need-mul-word
+mul-word c = search needs
 
-add-at : tie.Need-add-at
-add-at c = search needs
+add-word : tie.Need-add-word
+add-word c = search needs
 
-shared-slice-read-join : tie.Need-shared-slice-read-join
-shared-slice-read-join c = search needs
-
-add-join : tie.Need-add-join
-add-join c = search needs
-
-shared-slice-read-join-2 : tie.Need-shared-slice-read-join-2
-shared-slice-read-join-2 c = search needs
-
-join-requires : tie.Need-join-requires
-join-requires c κs = search needs
+word-requires : tie.Need-word-requires
+word-requires c κs = search needs
 
 returns : tie.Need-returns
-unfolding file fileEntry word
-returns c = c .join .ensures ∙ ap (λ (x : Index). word (c .before .before .before .before .before .args .l .now) (x .table + 14 * c .before .before .before .before .before .args .f)) (c .before .before .before .before .before .pre .0 .is)
+unfolding file fileEntry
+returns c = c .word .ensures ∙ ap (λ (x : Index). word (c .before .before .before .args .l .now) (x .table + 14 * c .before .before .before .args .f)) (c .before .before .before .pre .0 .is)
 
 pub file-identifier-spec : {M : Type 1} → statement M
-file-identifier-spec =
-    tie.close
-    (tie.spec
-    mul-at
-    add-at
-    shared-slice-read-join
-    add-join
-    shared-slice-read-join-2
-    join-requires
-    returns)
+file-identifier-spec = tie.close (tie.spec mul-word add-word word-requires returns)

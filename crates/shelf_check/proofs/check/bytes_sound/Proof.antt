@@ -4,11 +4,11 @@ use borrow.Author.Needs.{needs}
 use Rattle.shelf_check.proofs.check.bytes_sound.Statement.{statement}
 use Rattle.shelf_check.proofs.check.bytes_sound.Tie as tie
 
-sub-word-at : tie.Need-sub-word-at
-sub-word-at c = search needs
+sub-word : tie.Need-sub-word
+sub-word c = search needs
 
-word-at-requires : tie.Need-word-at-requires
-word-at-requires c κs = search needs
+word-requires : tie.Need-word-requires
+word-requires c κs = search needs
 
 cast-count : tie.Need-cast-count
 cast-count c = search needs
@@ -17,11 +17,11 @@ add-result : tie.Need-add-result
 add-result c = search needs
 
 returns : tie.Need-returns
-returns c = bytes-sound _ _ (c .before .before .before .pre .0 .is) _ _ (c .before .before .before .pre .1) (c .before .word-at .ensures) (c .if1 .taken)
+returns c = bytes-sound _ _ (c .before .before .before .pre .0) _ _ (c .before .before .before .pre .1) (c .before .word .ensures) (c .if1 .taken)
 
 returns-2 : tie.Need-returns-2
-returns-2 c = bytes-unsound _ _ (c .before .before .before .pre .0 .is) _ (c .before .before .before .pre .1) (c .if1 .left)
+returns-2 c = bytes-unsound _ _ (c .before .before .before .pre .0) _ (c .before .before .before .pre .1) (c .if1 .left)
 
 pub bytes-sound-spec : {M : Type 1} → statement M
 bytes-sound-spec =
-    tie.close (tie.spec sub-word-at word-at-requires cast-count add-result returns returns-2)
+    tie.close (tie.spec sub-word word-requires cast-count add-result returns returns-2)

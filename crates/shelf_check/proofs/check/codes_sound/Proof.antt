@@ -1,5 +1,7 @@
 -- `shelf_check::check::codes_sound` meets its contract: one law, from what each call says.
-use Rattle.shelf_check.proofs.Sections.{codes-sound}
+use native.Mathlib.Omega.{arith}
+use Rattle.card.specs.Layout.{code}
+use Rattle.shelf_check.proofs.Sections.{codes-inside, codes-sound}
 use borrow.Author.Needs.{needs}
 use Rattle.shelf_check.proofs.check.codes_sound.Statement.{statement}
 use Rattle.shelf_check.proofs.check.codes_sound.Tie as tie
@@ -10,17 +12,18 @@ code-requires c κs = search needs
 code-rules-requires : tie.Need-code-rules-requires
 code-rules-requires c κs = search needs
 
+add-code : tie.Need-add-code
+add-code c = search needs
+
 code-requires-2 : tie.Need-code-requires-2
-code-requires-2 c κs = search needs
+code-requires-2 c κs = let p = codes-inside _ _ (c .before .before .before .pre) in omega arith
 
 code-rules-requires-2 : tie.Need-code-rules-requires-2
 code-rules-requires-2 c κs = search needs
 
-sub-result : tie.Need-sub-result
-sub-result c = search needs
-
 returns : tie.Need-returns
-returns c = codes-sound _ _ (c .before .before .before .before .before .before .before .pre .is) _ _ _ _ (c .before .before .before .before .before .code .ensures) (c .before .before .before .before .code-rules .ensures) (c .before .before .before .code2 .ensures) (c .before .before .code-rules2 .ensures)
+unfolding code
+returns c = codes-sound _ _ (c .before .before .before .before .before .pre) _ _ _ _ (c .before .before .before .code .ensures) (c .before .before .code-rules .ensures) (c .before .code2 .ensures) (c .code-rules2 .ensures)
 
 pub codes-sound-spec : {M : Type 1} → statement M
 codes-sound-spec =
@@ -28,7 +31,7 @@ codes-sound-spec =
     (tie.spec
     code-requires
     code-rules-requires
+    add-code
     code-requires-2
     code-rules-requires-2
-    sub-result
     returns)

@@ -25,44 +25,44 @@ abbrev μ-loop : tie.MeasureT-loop
 loop-holds : tie.Need-loop-holds Inv-loop μ-loop
 loop-holds c = (omega arith, (every-none _, (holds-none _, (omega arith, sizes-none _))))
 
-mul-file-at : tie.Need-mul-file-at Inv-loop μ-loop
-mul-file-at c = omega (arith, c .before .before .before .pre .0 .files)
+mul-file : tie.Need-mul-file Inv-loop μ-loop
+mul-file c = omega (arith, c .before .before .before .pre .indexed .files)
 
-add-file-at : tie.Need-add-file-at Inv-loop μ-loop
-add-file-at c = omega (arith, c .before .before .before .before .pre .0 .files, c .before .before .before .before .pre .0 .table)
+add-file : tie.Need-add-file Inv-loop μ-loop
+add-file c = omega (arith, c .before .before .before .before .pre .indexed .files, c .before .before .before .before .pre .indexed .table)
 
-file-at-requires : tie.Need-file-at-requires Inv-loop μ-loop
-file-at-requires c κs = file-inside _ _ (c .before .before .before .before .pre .0 .is) _ (c .before .loop-test .taken) (c .before .before .before .before .pre .1 .1)
+file-requires : tie.Need-file-requires Inv-loop μ-loop
+file-requires c κs = file-inside _ _ (c .before .before .before .before .pre) _ (c .before .loop-test .taken)
 
 file-rules-requires : tie.Need-file-rules-requires Inv-loop μ-loop
-file-rules-requires c κs = c .before .before .before .before .before .pre .0
+file-rules-requires c κs = c .before .before .before .before .before .pre
 
 returns : tie.Need-returns Inv-loop μ-loop
-returns c = tally-fails _ _ _ (c .before .before .before .before .loop-test .taken) (file-fails _ (few _ _ (c .before .before .before .before .before .before .before .pre .0 .is) (c .before .before .before .before .before .before .before .pre .1 .0)) _ _ _ (file-read _ _ (c .before .before .before .before .before .before .before .pre .0 .is) _ _ (c .before .before .file-at .ensures)) (c .before .file-rules .ensures) (c .if1 .taken))
+returns c = tally-fails _ _ _ (c .before .before .before .before .loop-test .taken) (file-fails _ (few _ _ (c .before .before .before .before .before .before .before .pre)) _ _ _ (file-read _ _ (c .before .before .before .before .before .before .before .pre) _ _ (c .before .before .file .ensures)) (c .before .file-rules .ensures) (c .if1 .taken))
 
 file-key-requires : tie.Need-file-key-requires Inv-loop μ-loop
 file-key-requires c κs = search needs
 
 meet-requires : tie.Need-meet-requires Inv-loop μ-loop
-meet-requires c κs = (file-small _ (few _ _ (c .before .before .before .before .before .before .before .before .before .pre .0 .is) (c .before .before .before .before .before .before .before .before .before .pre .1 .0)) _ _ _ (file-read _ _ (c .before .before .before .before .before .before .before .before .before .pre .0 .is) _ _ (c .before .before .before .before .file-at .ensures)) (c .before .before .before .file-rules .ensures) _ (c .before .before .if1 .left) (c .file-key .ensures), c .before .before .before .before .before .before .before .loop .inv .1 .1 .0 .size)
+meet-requires c κs = (file-small _ (few _ _ (c .before .before .before .before .before .before .before .before .before .pre)) _ _ _ (file-read _ _ (c .before .before .before .before .before .before .before .before .before .pre) _ _ (c .before .before .before .before .file .ensures)) (c .before .before .before .file-rules .ensures) _ (c .before .before .if1 .left) (c .file-key .ensures), c .before .before .before .before .before .before .before .loop .inv .1 .1 .0 .size)
 
 returns-2 : tie.Need-returns-2 Inv-loop μ-loop
-returns-2 c = tally-fails _ _ _ (c .before .before .before .before .before .before .before .before .loop-test .taken) (file-decides _ (few _ _ (c .before .before .before .before .before .before .before .before .before .before .before .pre .0 .is) (c .before .before .before .before .before .before .before .before .before .before .before .pre .1 .0)) _ _ _ (file-read _ _ (c .before .before .before .before .before .before .before .before .before .before .before .pre .0 .is) _ _ (c .before .before .before .before .before .before .file-at .ensures)) (c .before .before .before .before .before .file-rules .ensures) _ _ (omega (arith, c .before .before .before .before .before .before .before .before .loop-test .taken, c .before .before .before .before .before .before .before .before .before .before .before .pre .0 .files)) (c .before .before .before .before .before .before .before .before .before .loop .inv .1 .0) (c .before .before .before .before .if1 .left) (c .before .before .before .before .before .before .before .before .before .loop .inv .1 .1 .0) (c .before .before .file-key .ensures) (c .before .meet .ensures .0) ∙ ap not (c .if2 .taken))
+returns-2 c = tally-fails _ _ _ (c .before .before .before .before .before .before .before .before .loop-test .taken) (file-decides _ (few _ _ (c .before .before .before .before .before .before .before .before .before .before .before .pre)) _ _ _ (file-read _ _ (c .before .before .before .before .before .before .before .before .before .before .before .pre) _ _ (c .before .before .before .before .before .before .file .ensures)) (c .before .before .before .before .before .file-rules .ensures) _ _ (omega (arith, c .before .before .before .before .before .before .before .before .loop-test .taken, c .before .before .before .before .before .before .before .before .before .before .before .pre .indexed .files)) (c .before .before .before .before .before .before .before .before .before .loop .inv .1 .0) (c .before .before .before .before .if1 .left) (c .before .before .before .before .before .before .before .before .before .loop .inv .1 .1 .0) (c .before .before .file-key .ensures) (c .before .meet .ensures .0) ∙ ap not (c .if2 .taken))
 
 cast-sum : tie.Need-cast-sum Inv-loop μ-loop
 cast-sum c = omega arith
 
 add-sum : tie.Need-add-sum Inv-loop μ-loop
-add-sum c = omega (arith, c .before .before .before .before .before .before .before .before .before .loop-test .taken, c .before .before .before .before .before .before .before .before .before .before .before .before .pre .0 .files, c .before .before .before .before .before .before .before .before .before .before .loop .inv .1 .1 .1 .0)
+add-sum c = omega (arith, c .before .before .before .before .before .before .before .before .before .loop-test .taken, c .before .before .before .before .before .before .before .before .before .before .before .before .pre .indexed .files, c .before .before .before .before .before .before .before .before .before .before .loop .inv .1 .1 .1 .0)
 
 add-f : tie.Need-add-f Inv-loop μ-loop
-add-f c = omega (arith, c .before .before .before .before .before .before .before .before .before .loop-test .taken, c .before .before .before .before .before .before .before .before .before .before .before .before .pre .0 .files)
+add-f c = omega (arith, c .before .before .before .before .before .before .before .before .before .loop-test .taken, c .before .before .before .before .before .before .before .before .before .before .before .before .pre .indexed .files)
 
 loop-less : tie.Need-loop-less Inv-loop μ-loop
 loop-less c = omega (arith, c .before .before .before .before .before .before .before .before .before .loop-test .taken)
 
 loop-again : tie.Need-loop-again Inv-loop μ-loop
-loop-again c = (omega (arith, c .before .before .before .before .before .before .before .before .before .loop-test .taken), (every-more _ _ (c .before .before .before .before .before .before .before .before .before .before .loop .inv .1 .0) (file-decides _ (few _ _ (c .before .before .before .before .before .before .before .before .before .before .before .before .pre .0 .is) (c .before .before .before .before .before .before .before .before .before .before .before .before .pre .1 .0)) _ _ _ (file-read _ _ (c .before .before .before .before .before .before .before .before .before .before .before .before .pre .0 .is) _ _ (c .before .before .before .before .before .before .before .file-at .ensures)) (c .before .before .before .before .before .before .file-rules .ensures) _ _ (omega (arith, c .before .before .before .before .before .before .before .before .before .loop-test .taken, c .before .before .before .before .before .before .before .before .before .before .before .before .pre .0 .files)) (c .before .before .before .before .before .before .before .before .before .before .loop .inv .1 .0) (c .before .before .before .before .before .if1 .left) (c .before .before .before .before .before .before .before .before .before .before .loop .inv .1 .1 .0) (c .before .before .before .file-key .ensures) (c .before .before .meet .ensures .0) ∙ ap not (c .before .if2 .left)), (file-holds _ (few _ _ (c .before .before .before .before .before .before .before .before .before .before .before .before .pre .0 .is) (c .before .before .before .before .before .before .before .before .before .before .before .before .pre .1 .0)) _ _ _ (file-read _ _ (c .before .before .before .before .before .before .before .before .before .before .before .before .pre .0 .is) _ _ (c .before .before .before .before .before .before .before .file-at .ensures)) (c .before .before .before .before .before .before .file-rules .ensures) _ (c .before .before .before .before .before .before .before .before .before .before .loop .inv .1 .1 .0) (c .before .before .before .file-key .ensures) (c .before .before .meet .ensures .1), (omega (arith, c .before .before .before .before .before .before .before .before .before .before .loop .inv .1 .1 .1 .0), sizes-more _ _ _ _ (c .before .before .before .before .before .before .before .before .before .before .loop .inv .1 .1 .1 .1) (ap (λ (x : Entry). x .size) (file-read _ _ (c .before .before .before .before .before .before .before .before .before .before .before .before .pre .0 .is) _ _ (c .before .before .before .before .before .before .before .file-at .ensures)))))))
+loop-again c = (omega (arith, c .before .before .before .before .before .before .before .before .before .loop-test .taken), (every-more _ _ (c .before .before .before .before .before .before .before .before .before .before .loop .inv .1 .0) (file-decides _ (few _ _ (c .before .before .before .before .before .before .before .before .before .before .before .before .pre)) _ _ _ (file-read _ _ (c .before .before .before .before .before .before .before .before .before .before .before .before .pre) _ _ (c .before .before .before .before .before .before .before .file .ensures)) (c .before .before .before .before .before .before .file-rules .ensures) _ _ (omega (arith, c .before .before .before .before .before .before .before .before .before .loop-test .taken, c .before .before .before .before .before .before .before .before .before .before .before .before .pre .indexed .files)) (c .before .before .before .before .before .before .before .before .before .before .loop .inv .1 .0) (c .before .before .before .before .before .if1 .left) (c .before .before .before .before .before .before .before .before .before .before .loop .inv .1 .1 .0) (c .before .before .before .file-key .ensures) (c .before .before .meet .ensures .0) ∙ ap not (c .before .if2 .left)), (file-holds _ (few _ _ (c .before .before .before .before .before .before .before .before .before .before .before .before .pre)) _ _ _ (file-read _ _ (c .before .before .before .before .before .before .before .before .before .before .before .before .pre) _ _ (c .before .before .before .before .before .before .before .file .ensures)) (c .before .before .before .before .before .before .file-rules .ensures) _ (c .before .before .before .before .before .before .before .before .before .before .loop .inv .1 .1 .0) (c .before .before .before .file-key .ensures) (c .before .before .meet .ensures .1), (omega (arith, c .before .before .before .before .before .before .before .before .before .before .loop .inv .1 .1 .1 .0), sizes-more _ _ _ _ (c .before .before .before .before .before .before .before .before .before .before .loop .inv .1 .1 .1 .1) (ap (λ (x : Entry). x .size) (file-read _ _ (c .before .before .before .before .before .before .before .before .before .before .before .before .pre) _ _ (c .before .before .before .before .before .before .before .file .ensures)))))))
 
 returns-3 : tie.Need-returns-3 Inv-loop μ-loop
 returns-3 c = tally-sum _ _ _ _ (c .before .loop .inv .0) (c .loop-test .left) (c .before .loop .inv .1 .0) (c .before .loop .inv .1 .1 .1 .1)
@@ -74,9 +74,9 @@ each-file-spec =
     Inv-loop
     μ-loop
     loop-holds
-    mul-file-at
-    add-file-at
-    file-at-requires
+    mul-file
+    add-file
+    file-requires
     file-rules-requires
     returns
     file-key-requires
