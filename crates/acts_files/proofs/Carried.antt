@@ -23,8 +23,10 @@ use Rattle.card.proofs.Tests.{all-at}
 use Rattle.commands.specs.Gives as given
 use Rattle.commands.specs.Gives.{brief}
 use Rattle.commands.specs.declared.answers.Reply.{Reply}
-use Rattle.commands_files.specs.Stands.{Stands, Counts}
-use Rattle.commands_files.proofs.Granted.{standing, counting}
+use Rattle.commands_records.specs.Stands.{Stands}
+use Rattle.commands_increase.specs.Counts.{Counts}
+use Rattle.commands_records.proofs.Granted.{standing}
+use Rattle.commands_increase.proofs.Counting.{counting}
 use Rattle.acts.specs.Leaves.{Leaves, Reads}
 use Rattle.acts.specs.Ready.{Ready}
 use Rattle.acts.proofs.Kept.{tells, quiet}

@@ -6,10 +6,6 @@ use card::Current;
 use card::Session;
 use commands::answers::Reply;
 use commands::answers::refusal;
-use commands_files::binary;
-use commands_files::increase;
-use commands_files::records;
-use commands_files::seek;
 ghost use mathlib.Core.List.{List};
 ghost use mathlib.Core.Path.{_≡_};
 ghost use Prim.Native.Nat.{ℕ, _≤_};
@@ -34,7 +30,7 @@ pub fn read_binary(image: &[u8], s: Session, at: usize, n: usize, room: &mut [u8
     let p = stand(image, s, f);
     let start = p.start;
     let end = p.end;
-    binary::read_binary(p.rights, p.entry, &image[start..end], s, at, n, room)
+    commands_binary::read_binary(p.rights, p.entry, &image[start..end], s, at, n, room)
 }
 
 // A record of n bytes, into the room. Only this player's crates call it.
@@ -57,7 +53,7 @@ pub fn read_record(
     let p = stand(image, s, f);
     let start = p.start;
     let end = p.end;
-    records::read_record(
+    commands_records::read_record(
         p.rights,
         p.entry,
         &image[start..end],
@@ -81,7 +77,7 @@ pub fn seek_record(image: &[u8], s: Session, mode: usize, pattern: &[u8]) -> Rep
     let p = stand(image, s, f);
     let start = p.start;
     let end = p.end;
-    seek::seek_record(p.rights, p.entry, &image[start..end], s, mode, pattern)
+    commands_seek::seek_record(p.rights, p.entry, &image[start..end], s, mode, pattern)
 }
 
 // The bytes from a place on become others. Only this player's crates call it.
@@ -96,7 +92,7 @@ pub fn update_binary(image: &mut [u8], s: Session, at: usize, new: &[u8]) -> Rep
     let p = stand(image, s, f);
     let start = p.start;
     let end = p.end;
-    binary::update_binary(p.rights, p.entry, &mut image[start..end], s, at, new)
+    commands_binary::update_binary(p.rights, p.entry, &mut image[start..end], s, at, new)
 }
 
 // A record becomes another; the top is written after it. Only this player's crates call it.
@@ -111,7 +107,7 @@ pub fn update_record(image: &mut [u8], s: Session, number: usize, mode: usize, n
     let p = stand(image, s, f);
     let start = p.start;
     let end = p.end;
-    let w = records::update_record(
+    let w = commands_records::update_record(
         p.rights,
         p.entry,
         &mut image[start..end],
@@ -138,7 +134,7 @@ pub fn increase_by(image: &mut [u8], s: Session, added: &[u8]) -> Reply
     let p = stand(image, s, f);
     let start = p.start;
     let end = p.end;
-    let w = increase::increase_by(p.rights, p.entry, &mut image[start..end], s, added);
+    let w = commands_increase::increase_by(p.rights, p.entry, &mut image[start..end], s, added);
     let top = p.at + TOP;
     image[top] = w.top;
     w.reply

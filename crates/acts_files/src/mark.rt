@@ -5,7 +5,6 @@ use card::Current;
 use card::Session;
 use commands::answers::Reply;
 use commands::answers::refusal;
-use commands_files::marks;
 ghost use Rattle.card.specs.Marks.{invalidate, rehabilitate};
 ghost use Rattle.acts.specs.Leaves.{Marks};
 ghost use Rattle.acts.specs.Ready.{Ready};
@@ -20,7 +19,7 @@ pub fn invalidate(image: &mut [u8], s: Session) -> Reply
         return refusal(s, 0x9400);
     };
     let p = stand(image, s, f);
-    let marked = marks::invalidate(p.rights, p.entry, s);
+    let marked = commands_marks::invalidate(p.rights, p.entry, s);
     let status = p.at + STATUS;
     image[status] = marked.status;
     marked.reply
@@ -36,7 +35,7 @@ pub fn rehabilitate(image: &mut [u8], s: Session) -> Reply
         return refusal(s, 0x9400);
     };
     let p = stand(image, s, f);
-    let cleared = marks::rehabilitate(p.rights, p.entry, s);
+    let cleared = commands_marks::rehabilitate(p.rights, p.entry, s);
     let status = p.at + STATUS;
     image[status] = cleared.status;
     cleared.reply
