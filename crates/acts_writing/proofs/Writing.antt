@@ -25,6 +25,7 @@ use Rattle.acts_stand.proofs.Carried.{span, lent, rules, carried}
 use Rattle.acts_stand.proofs.Changed.{changed, unchanged}
 
 module _ {l : List ℕ} {s : Session} {f : ℕ} {p : Place} (h : Here l s f p) where
+  -- what INCREASE takes for granted
   pub counted : (added : List ℕ) → length added ≡ 3 → Counts (p .entry) added
   unfolding fileRules
   counted added three = counting (p .entry) added (all-at (fileRules l f (p .entry)) (rules h) 7) three
