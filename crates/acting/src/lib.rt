@@ -4,10 +4,16 @@ use acts_codes::disable;
 use acts_codes::enable;
 use acts_codes::unblock;
 use acts_codes::verify;
-use acts_files::files;
-use acts_files::mark;
+use acts_marks::invalidate;
+use acts_marks::rehabilitate;
+use acts_reading::read_binary;
+use acts_reading::read_record;
+use acts_reading::seek_record;
 use acts_select::select;
 use acts_select::status;
+use acts_writing::increase_by;
+use acts_writing::update_binary;
+use acts_writing::update_record;
 use card::Instruction;
 use card::Session;
 use commands::answers::Reply;
@@ -45,19 +51,19 @@ pub fn act(
     match i {
         Instruction::Select => select(image, s, word_at(body, 0)),
         Instruction::Status => status(image, s, n, room),
-        Instruction::ReadBinary => files::read_binary(image, s, p * 256 + q, wanted(n), room),
-        Instruction::UpdateBinary => files::update_binary(image, s, p * 256 + q, body),
-        Instruction::ReadRecord => files::read_record(image, s, p, q, n, room),
-        Instruction::UpdateRecord => files::update_record(image, s, p, q, body),
-        Instruction::Seek => files::seek_record(image, s, q, body),
-        Instruction::Increase => files::increase_by(image, s, body),
+        Instruction::ReadBinary => read_binary(image, s, p * 256 + q, wanted(n), room),
+        Instruction::UpdateBinary => update_binary(image, s, p * 256 + q, body),
+        Instruction::ReadRecord => read_record(image, s, p, q, n, room),
+        Instruction::UpdateRecord => update_record(image, s, p, q, body),
+        Instruction::Seek => seek_record(image, s, q, body),
+        Instruction::Increase => increase_by(image, s, body),
         Instruction::Verify => verify(image, s, q - 1, body),
         Instruction::Change => change(image, s, q - 1, body),
         Instruction::Disable => disable(image, s, body),
         Instruction::Enable => enable(image, s, body),
         Instruction::Unblock => unblock(image, s, q / 2, body),
-        Instruction::Invalidate => mark::invalidate(image, s),
-        Instruction::Rehabilitate => mark::rehabilitate(image, s),
+        Instruction::Invalidate => invalidate(image, s),
+        Instruction::Rehabilitate => rehabilitate(image, s),
         Instruction::Sleep => silent(dropped(s), 0x9000),
         Instruction::GetResponse => get_response(s, n, room),
         Instruction::Unknown => refusal(s, 0x6d00),

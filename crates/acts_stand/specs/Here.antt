@@ -1,0 +1,32 @@
+-- The current file, as the code has read it.
+use Prim.Native.Nat.{ℕ, _+_, _≤_, _<_}
+use mathlib.Core.Path.{_≡_}
+use mathlib.Core.List.{List}
+use lib.ListN.{length}
+use Rattle.card.specs.Access.{rights}
+use Rattle.card.specs.Layout.{index, file, fileAt, start, head}
+use Rattle.card.specs.declared.Current.the-variants.{File}
+use Rattle.card.specs.declared.Session.{Session}
+use Rattle.acts.specs.Ready.{Ready}
+use Rattle.acts_stand.specs.declared.Place.{Place}
+
+-- what the definition says of file f
+unfoldable pub place : List ℕ → Session → ℕ → Place
+place l s f =
+    record {
+      rights = rights (head l) s;
+      entry = file l f;
+      at = fileAt (index l) f;
+      start = start l f;
+      end = start l f + file l f .size;
+    }
+
+-- File f is the current one, p is what the definition says of it, and its entry and its bytes lie inside the image.
+pub record Here (l : List ℕ) (s : Session) (f : ℕ) (p : Place) : Type 0 where
+  pub ready : Ready l s
+  pub current : s .current ≡ File f
+  pub among : f < index l .files
+  pub is : p ≡ place l s f
+  pub before : p .at + 14 ≤ p .start
+  pub filled : p .start ≤ p .end
+  pub inside : p .end ≤ length l

@@ -1,0 +1,84 @@
+// What a command on the current file goes by, read from the image once: the laws of such a command stand beside it.
+use card::Entry;
+use card::Index;
+use card::Rights;
+use card::Session;
+use commands::parts::wide;
+use commands::parts::wide_word;
+use shelf::read;
+ghost use mathlib.Core.Path.{_≡_};
+ghost use Prim.Native.Nat.{_+_, _*_, _<_, _≤_};
+ghost use lib.ListN.{length};
+ghost use Rattle.card.specs.Access.{rights};
+ghost use Rattle.card.specs.Bytes.{word};
+ghost use Rattle.card.specs.Layout.{start};
+ghost use Rattle.card.specs.declared.Current.the-variants.{File};
+ghost use Rattle.shelf.specs.Reads.{Indexed};
+ghost use Rattle.acts.specs.Ready.{Ready};
+ghost use Rattle.acts_stand.specs.Here.{Here};
+
+// The rights, the file's entry and the entry's place, and where the file's bytes start and end.
+pub struct Place {
+    pub rights: Rights,
+    pub entry: Entry,
+    pub at: usize,
+    pub start: usize,
+    pub end: usize,
+}
+
+// Which of levels 1 and 2 the codes and the session fulfil.
+fn rights(l: &[u8], s: Session) -> Rights
+    ensures { λ r. ⌜ r ≡ rights (now (l .entry)) s ⌝ }
+{
+    let one = read::code(l, 0);
+    let two = read::code(l, 1);
+    Rights {
+        level1: (0 < one.attempts) & ((one.flags % 2 == 1) | s.chv1),
+        level2: (0 < two.attempts) & s.chv2,
+    }
+}
+
+// Two bytes that are there.
+fn pair(l: &[u8], at: usize) -> usize
+    requires { ⌜ at + 2 ≤ length (now l) ⌝ }
+    ensures { λ r. ⌜ (r ≡ word (now (l .entry)) at) × (r < 65536) ⌝ }
+{
+    wide(l[at]) * 256 + wide(l[at + 1])
+}
+
+// Where the bytes of file f start: after the bytes of the files before it.
+fn start(l: &[u8], i: Index, f: usize) -> usize
+    requires { ⌜ Indexed (now l) i ⌝ }
+    requires { ⌜ (f < 65536) × (i .table + 14 * f ≤ length (now l)) ⌝ }
+    ensures { λ r. ⌜ r ≡ start (now (l .entry)) f ⌝ }
+{
+    let table = i.table;
+    let mut sum: usize = 0;
+    let mut g = 0;
+    while g < f {
+        sum += pair(l, table + 14 * g + 10);
+        g += 1;
+    }
+    i.store + sum
+}
+
+// The current file. Only this player's crates call it.
+pub fn stand(l: &[u8], s: Session, f: usize) -> Place
+    requires { ⌜ Ready (now l) s ⌝ }
+    requires { ⌜ s .current ≡ File f ⌝ }
+    ensures { λ p. ⌜ Here (now (l .entry)) s f p ⌝ }
+{
+    let i = read::index(l);
+    let at = i.table + 14 * f;
+    let rights = rights(l, s);
+    let entry = read::file_at(l, at);
+    let start = start(l, i, f);
+    let end = start + wide_word(entry.size);
+    Place {
+        rights,
+        entry,
+        at,
+        start,
+        end,
+    }
+}

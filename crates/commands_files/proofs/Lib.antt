@@ -1,6 +1,0 @@
-pub mod Binaries
-pub mod Reaching
-pub mod Marking
-pub mod Seeking
-pub mod Increasing
-pub mod Granted

@@ -1,2 +1,0 @@
-pub mod Along
-pub mod Stands

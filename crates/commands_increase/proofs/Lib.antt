@@ -1,0 +1,2 @@
+pub mod Increasing
+pub mod Counting
