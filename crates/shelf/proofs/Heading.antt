@@ -13,6 +13,7 @@ use Rattle.card.specs.declared.Index.{Index}
 use Rattle.card.proofs.Frames.{placed}
 use Rattle.card.proofs.Heads.{index-head, head-sound}
 use Rattle.card.proofs.Images.{image}
+use Rattle.card.proofs.Places.{directory-place}
 use Rattle.shelf.specs.Reads.{Indexed, Head}
 
 module _ (l : List ℕ) (s : Image l) where
@@ -63,3 +64,10 @@ module _ (l : List ℕ) (i : Index) (is : i ≡ index l) (sound : isImage l ≡ 
 
   pub head-length : i .store ≡ length (take (i .store) l)
   head-length = sym (length-take-le (i .store) l inside)
+
+-- a directory's entry lies inside the head
+pub directory-inside : (h : List ℕ) (i : Index) → Head h i → (d : ℕ) → d < i .directories → i .tree + 8 * d + 8 ≤ length h
+directory-inside h i k d lt =
+    let at : i .tree + 8 * d + 8 + 2 ≤ i .table = rw (k .indexed .is) (directory-place h d (rw (← k .indexed .is) lt)) in
+    let w = k .whole in
+    omega arith

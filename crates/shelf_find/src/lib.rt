@@ -31,8 +31,8 @@ fn named(head: &[u8], i: Index, here: usize, id: u16, f: usize) -> bool
 
 // The number of the directory that an identifier selects, or the count of directories. Called by this player's crates only.
 pub fn find_directory(head: &[u8], i: Index, here: usize, id: u16) -> usize
-    requires { ⌜ Indexed (now head) i ⌝ }
-    requires { ⌜ here < 65536 ⌝ }
+    requires { ⌜ Head (now head) i ⌝ }
+    requires { ⌜ here < i .directories ⌝ }
     ensures { λ r. ⌜ r ≡ findDirectory (now (head .entry)) here id ⌝ }
 {
     let n = i.directories;

@@ -100,7 +100,7 @@ fn member(head: &[u8], i: Index, d: usize, f: usize) -> bool
 
 // How many directories have d as their parent.
 fn children(head: &[u8], i: Index, d: usize) -> usize
-    requires { ⌜ Indexed (now head) i ⌝ }
+    requires { ⌜ Head (now head) i ⌝ }
     ensures { λ r. ⌜ Counted (i .directories) (children (now (head .entry)) d) r ⌝ }
 {
     let n = i.directories;

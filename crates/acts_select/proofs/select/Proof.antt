@@ -17,7 +17,7 @@ slice-aggregate-head c =
 find-directory-requires : tie.Need-find-directory-requires
 find-directory-requires c κs =
     let h = heading (c .before .before .before .pre) _ (c .before .index .ensures .is) in
-    (h .indexed, omega (arith, here (c .before .before .before .pre) _ (c .before .index .ensures .is), h .directories))
+    (h, here (c .before .before .before .pre) _ (c .before .index .ensures .is))
 
 directory-response-requires : tie.Need-directory-response-requires
 directory-response-requires c κs =

@@ -24,13 +24,13 @@ loop-holds : tie.Need-loop-holds Inv-loop μ-loop
 loop-holds c = (search needs, search-none _ _)
 
 directory-requires-2 : tie.Need-directory-requires-2 Inv-loop μ-loop
-directory-requires-2 c κs = (c .before .before .before .before .pre .0, omega (arith, c .before .before .before .before .pre .0 .directories))
+directory-requires-2 c κs = (c .before .before .before .before .pre .0, c .loop-test .taken)
 
 leads-requires : tie.Need-leads-requires Inv-loop μ-loop
 leads-requires c κs = search needs
 
 returns : tie.Need-returns Inv-loop μ-loop
-returns c = directory-found _ _ (c .before .before .before .before .before .before .before .pre .0 .is) _ _ _ _ (c .before .before .before .before .before .directory .ensures) (search-found _ _ _ (c .before .before .before .loop-test .taken) (c .before .before .before .before .loop .inv .1) (leads-at _ _ _ _ _ _ _ _ (c .before .before .directory2 .ensures) (c .before .leads .ensures) (c .if1 .taken)))
+returns c = directory-found _ _ (c .before .before .before .before .before .before .before .pre .0 .indexed .is) _ _ _ _ (c .before .before .before .before .before .directory .ensures) (search-found _ _ _ (c .before .before .before .loop-test .taken) (c .before .before .before .before .loop .inv .1) (leads-at _ _ _ _ _ _ _ _ (c .before .before .directory2 .ensures) (c .before .leads .ensures) (c .if1 .taken)))
 
 add-d : tie.Need-add-d Inv-loop μ-loop
 add-d c = omega (arith, c .before .before .before .loop-test .taken, c .before .before .before .before .before .before .before .pre .0 .directories)
@@ -42,7 +42,7 @@ loop-again : tie.Need-loop-again Inv-loop μ-loop
 loop-again c = (omega (arith, c .before .before .before .loop-test .taken), search-more _ _ _ (c .before .before .before .loop-test .taken) (c .before .before .before .before .loop .inv .1) (leads-at _ _ _ _ _ _ _ _ (c .before .before .directory2 .ensures) (c .before .leads .ensures) (c .if1 .left)))
 
 returns-2 : tie.Need-returns-2 Inv-loop μ-loop
-returns-2 c = directory-found _ _ (c .before .before .before .before .pre .0 .is) _ _ _ _ (c .before .before .directory .ensures) (search-end _ _ _ (c .before .loop .inv .0) (c .loop-test .left) (c .before .loop .inv .1))
+returns-2 c = directory-found _ _ (c .before .before .before .before .pre .0 .indexed .is) _ _ _ _ (c .before .before .directory .ensures) (search-end _ _ _ (c .before .loop .inv .0) (c .loop-test .left) (c .before .loop .inv .1))
 
 pub find-directory-spec : {M : Type 1} → statement M
 find-directory-spec =

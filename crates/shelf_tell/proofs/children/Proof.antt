@@ -21,7 +21,7 @@ loop-holds : tie.Need-loop-holds Inv-loop μ-loop
 loop-holds c = (search needs, (search needs, count-none _))
 
 directory-requires : tie.Need-directory-requires Inv-loop μ-loop
-directory-requires c κs = (c .before .before .before .pre, omega (arith, c .before .before .before .pre .directories))
+directory-requires c κs = (c .before .before .before .pre, c .loop-test .taken)
 
 child-requires : tie.Need-child-requires Inv-loop μ-loop
 child-requires c κs = search needs
@@ -42,7 +42,7 @@ loop-again : tie.Need-loop-again Inv-loop μ-loop
 loop-again c = (omega (arith, c .before .before .before .loop-test .taken), (omega (arith, c .bit .ensures .1, c .before .before .before .before .loop .inv .1 .0), count-more _ _ _ _ (c .before .before .before .before .loop .inv .1 .1) (child-at _ _ _ _ _ _ (c .before .before .directory .ensures) (c .before .child .ensures) (c .bit .ensures .0))))
 
 returns : tie.Need-returns Inv-loop μ-loop
-returns c = record { is = children-are _ _ (c .before .before .before .pre .is) _ _ (count-end _ _ _ _ (c .before .loop .inv .0) (c .loop-test .left) (c .before .loop .inv .1 .1)); few = omega (arith, c .before .loop .inv .0, c .before .loop .inv .1 .0) }
+returns c = record { is = children-are _ _ (c .before .before .before .pre .indexed .is) _ _ (count-end _ _ _ _ (c .before .loop .inv .0) (c .loop-test .left) (c .before .loop .inv .1 .1)); few = omega (arith, c .before .loop .inv .0, c .before .loop .inv .1 .0) }
 
 pub children-spec : {M : Type 1} → statement M
 children-spec =
