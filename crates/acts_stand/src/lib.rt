@@ -3,7 +3,6 @@ use card::Entry;
 use card::Index;
 use card::Rights;
 use card::Session;
-use commands::parts::wide;
 use commands::parts::wide_word;
 use shelf::read;
 ghost use mathlib.Core.Path.{_≡_};
@@ -43,7 +42,7 @@ fn pair(l: &[u8], at: usize) -> usize
     requires { ⌜ at + 2 ≤ length (now l) ⌝ }
     ensures { λ r. ⌜ (r ≡ word (now (l .entry)) at) × (r < 65536) ⌝ }
 {
-    wide(l[at]) * 256 + wide(l[at + 1])
+    wide_word(entries::word(l, at))
 }
 
 // Where the bytes of file f start: after the bytes of the files before it.

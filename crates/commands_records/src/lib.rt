@@ -16,6 +16,7 @@ use commands::parts::wide;
 use commands::parts::wide_word;
 use commands::sessions::dropped;
 use commands::sessions::points;
+use entries::records;
 ghost use mathlib.Core.Path.{_≡_};
 ghost use Prim.Native.Nat.{_+_, _-_, _%_, _≤_, _<_};
 ghost use lib.ListN.{length};
@@ -30,17 +31,6 @@ ghost use Rattle.commands_records.specs.Stands.{Recorded, Stands};
 pub struct Written {
     pub reply: Reply,
     pub top: u8,
-}
-
-// How many records a file has.
-pub fn records(e: Entry) -> usize
-    ensures { λ r. ⌜ r ≡ records e ⌝ }
-{
-    let width = wide(e.width);
-    if width == 0 {
-        return 0;
-    }
-    wide_word(e.size) / width
 }
 
 // The record after a pointer, from 1, and 0 where there is none; a cyclic file goes round.

@@ -14,7 +14,7 @@ use commands::parts::wide;
 use commands::sessions::dropped;
 use commands::sessions::points;
 use commands::sessions::waits_one;
-use commands_records::records;
+use entries::records;
 ghost use mathlib.Core.Path.{_≡_};
 ghost use Prim.Native.Nat.{ℕ, _+_, _*_, _≤_, _<_};
 ghost use lib.ListN.{length};

@@ -1,9 +1,9 @@
-// Words and entries of an image whose bytes are all there: no byte's place is tested. Only this player's crates call these.
+// Words and entries of an image whose bytes are all there, where no byte's place is tested, and what an entry says of its records. Only this player's crates call these.
 ghost use mathlib.Core.Path.{_≡_};
 ghost use Prim.Native.Nat.{_+_, _*_, _≤_};
 ghost use lib.ListN.{length};
 ghost use Rattle.card.specs.Bytes.{word};
-ghost use Rattle.card.specs.Layout.{codeEntry, directoryEntry, fileEntry};
+ghost use Rattle.card.specs.Layout.{codeEntry, directoryEntry, fileEntry, records};
 use card::Code;
 use card::Directory;
 use card::Entry;
@@ -70,4 +70,14 @@ pub fn file(l: &[u8], at: usize) -> Entry
         top: l[at + 12],
         spare: l[at + 13],
     }
+}
+
+// How many records a file has; one without a record length has none.
+pub fn records(e: Entry) -> usize
+    ensures { λ r. ⌜ r ≡ records e ⌝ }
+{
+    if e.width == 0 {
+        return 0;
+    }
+    (e.size as usize) / (e.width as usize)
 }

@@ -2,7 +2,6 @@
 ghost use mathlib.Core.Path.{_≡_};
 ghost use Rattle.card.specs.Sessions.{pointed, stands, padded};
 ghost use Rattle.shelf.specs.Reads.{Indexed};
-use crate::rules;
 use card::Current;
 use card::Entry;
 use card::Index;
@@ -17,7 +16,7 @@ fn pointed(e: Entry, p: Pointer) -> bool
         Pointer::Undefined => true,
         Pointer::At(n) => {
             let plain = e.structure == 0;
-            !plain & (0 < n) & (n <= rules::records(e))
+            !plain & (0 < n) & (n <= entries::records(e))
         }
     }
 }

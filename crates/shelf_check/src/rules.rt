@@ -3,7 +3,7 @@ ghost use mathlib.Core.Path.{_≡_};
 ghost use mathlib.Core.Bool.{_&&_};
 ghost use Prim.Native.Nat.{_<_, _/_, _%_};
 ghost use lib.Dec.{eqb, ltb, leb};
-ghost use Rattle.card.specs.Layout.{directory, records};
+ghost use Rattle.card.specs.Layout.{directory};
 ghost use Rattle.card.specs.Shelf.{all, codeRules, below, within, recordsRule};
 ghost use Rattle.shelf_check.specs.Apart.{ownDirectory, ownFile, otherRules, directoryKey, fileKey};
 ghost use Rattle.shelf_check.specs.Whole.{Whole};
@@ -11,6 +11,7 @@ use card::Code;
 use card::Directory;
 use card::Entry;
 use card::Index;
+use entries::records;
 
 // A directory that starts 7F stands in one that starts 3F, and 5F in 7F.
 fn below(parent: u16, child: u16) -> bool
@@ -77,24 +78,11 @@ pub fn directory_key(d: usize, e: Directory) -> usize
     }
 }
 
-// How many times a part goes into a whole, and what is left; 0 goes into nothing.
-fn quotient(whole: usize, part: usize) -> usize
-    ensures { λ r. ⌜ r ≡ whole / part ⌝ }
-{
-    if part == 0 { 0 } else { whole / part }
-}
-
+// What is left of a whole in parts; 0 goes into nothing.
 fn remainder(whole: usize, part: usize) -> usize
     ensures { λ r. ⌜ r ≡ whole % part ⌝ }
 {
     if part == 0 { whole } else { whole % part }
-}
-
-// How many records a file has.
-pub fn records(e: Entry) -> usize
-    ensures { λ r. ⌜ r ≡ records e ⌝ }
-{
-    quotient(e.size as usize, e.width as usize)
 }
 
 // Record length 1 to 255, and 1 to 254 whole records.
