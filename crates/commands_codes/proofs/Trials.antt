@@ -18,8 +18,8 @@ use Rattle.card.specs.declared.Session.{Session}
 use Rattle.commands.specs.declared.answers.Reply.{Reply as Told}
 use Rattle.commands.specs.Gives.{brief, Codes}
 use Rattle.commands_codes.specs.Keys.{valueAt, untestable, missedWord, Sized, Tried}
-use Rattle.commands.proofs.Refusals.{nothing, holding, passing, bySkipping, indeed, otherwise}
-use Rattle.commands.proofs.Comparing.{same-true}
+use Rattle.access.proofs.Refusals.{nothing, holding, passing, bySkipping, indeed, otherwise}
+use Rattle.parts.proofs.Comparing.{same-true}
 use Rattle.commands.proofs.Replies.{uncoded, recoded}
 
 module _ (key : Key) (k : Code) (x r : Bool) (n : ℕ) (is : r ≡ ready key k) where

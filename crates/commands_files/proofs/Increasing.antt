@@ -22,7 +22,7 @@ use Rattle.card.specs.declared.Pointer.the-variants.{At}
 use Rattle.commands.specs.declared.answers.Reply.{Reply as Told}
 use Rattle.commands.specs.Gives.{brief, Writes}
 use Rattle.commands_files.specs.Stands.{Recorded, Stands, Counts}
-use Rattle.commands.proofs.Refusals.{nothing, holding, passing, sharedFirst, sharedNone, sharedClear}
+use Rattle.access.proofs.Refusals.{nothing, holding, passing, sharedFirst, sharedNone, sharedClear}
 use Rattle.commands.proofs.Replies.{unwritten, wrote}
 
 -- six bytes, one by one

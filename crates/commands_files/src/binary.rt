@@ -1,16 +1,16 @@
 // READ BINARY and UPDATE BINARY.
+use access::shared;
 use card::Act;
 use card::Entry;
 use card::Rights;
 use card::Session;
-use commands::access::shared;
 use commands::answers::Reply;
 use commands::answers::refusal;
 use commands::answers::silent;
-use commands::parts::lay;
-use commands::parts::put;
-use commands::parts::wide_word;
-use commands::sessions::dropped;
+use parts::lay;
+use parts::put;
+use parts::wide_word;
+use sessions::dropped;
 ghost use mathlib.Core.Path.{_≡_};
 ghost use Prim.Native.Nat.{_≤_};
 ghost use lib.ListN.{length};

@@ -1,13 +1,13 @@
 // INVALIDATE and REHABILITATE.
+use access::shared;
 use card::Act;
 use card::Entry;
 use card::Rights;
 use card::Session;
-use commands::access::shared;
 use commands::answers::Reply;
 use commands::answers::refusal;
 use commands::answers::silent;
-use commands::sessions::dropped;
+use sessions::dropped;
 ghost use mathlib.Core.Path.{_≡_};
 ghost use Prim.Native.Nat.{_<_};
 ghost use Rattle.card.specs.Marks.{invalidate, rehabilitate};

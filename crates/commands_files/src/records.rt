@@ -1,20 +1,20 @@
 // READ RECORD and UPDATE RECORD.
+use access::shared;
 use card::Act;
 use card::Entry;
 use card::Pointer;
 use card::Rights;
 use card::Session;
-use commands::access::shared;
 use commands::answers::Reply;
 use commands::answers::refusal;
 use commands::answers::silent;
-use commands::parts::lay;
-use commands::parts::low;
-use commands::parts::put;
-use commands::parts::wide;
-use commands::parts::wide_word;
-use commands::sessions::dropped;
-use commands::sessions::points;
+use parts::lay;
+use parts::low;
+use parts::put;
+use parts::wide;
+use parts::wide_word;
+use sessions::dropped;
+use sessions::points;
 ghost use mathlib.Core.Path.{_≡_};
 ghost use Prim.Native.Nat.{_+_, _-_, _%_, _≤_, _<_};
 ghost use lib.ListN.{length};

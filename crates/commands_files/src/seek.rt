@@ -1,19 +1,19 @@
 // SEEK.
 use crate::records::records;
+use access::shared;
 use card::Act;
 use card::Entry;
 use card::Pointer;
 use card::Rights;
 use card::Session;
-use commands::access::shared;
 use commands::answers::Reply;
 use commands::answers::refusal;
 use commands::answers::silent;
-use commands::parts::low;
-use commands::parts::wide;
-use commands::sessions::dropped;
-use commands::sessions::points;
-use commands::sessions::waits_one;
+use parts::low;
+use parts::wide;
+use sessions::dropped;
+use sessions::points;
+use sessions::waits_one;
 ghost use mathlib.Core.Path.{_≡_};
 ghost use Prim.Native.Nat.{ℕ, _+_, _*_, _≤_, _<_};
 ghost use lib.ListN.{length};

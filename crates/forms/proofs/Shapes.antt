@@ -6,7 +6,7 @@ use mathlib.Core.Bool.{Bool, true, false, not}
 use Rattle.card.specs.Answers.{first, _says_}
 use Rattle.card.specs.Forms.{Form, formOf, formed, sent}
 use Rattle.card.specs.declared.Instruction.{Instruction}
-use Rattle.commands.proofs.Refusals.{holding, passing, indeed, otherwise}
+use Rattle.access.proofs.Refusals.{holding, passing, indeed, otherwise}
 use Rattle.forms.specs.Means.{pairs, counts, meaning}
 use Rattle.forms.specs.declared.Count.{Count}
 use Rattle.forms.specs.declared.Shape.{Shape}

@@ -1,6 +1,6 @@
 // The instruction of a command, and its form: which P1, P2 and P3 it takes, and how many data bytes follow.
 use card::Instruction;
-use commands::parts::wide;
+use parts::wide;
 ghost use mathlib.Core.Path.{_≡_};
 ghost use mathlib.Core.Bool.{true, false};
 ghost use mathlib.Core.List.{[], _∷_};

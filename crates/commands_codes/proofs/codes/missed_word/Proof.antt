@@ -1,7 +1,7 @@
 -- `commands::codes::missed_word` meets its contract.
 use borrow.Author.Tests.{eq-eqb, ne-eqb}
 use Rattle.commands_codes.specs.Keys.{missedWord}
-use Rattle.commands.proofs.Refusals.{indeed, otherwise}
+use Rattle.access.proofs.Refusals.{indeed, otherwise}
 use Rattle.commands_codes.proofs.codes.missed_word.Statement.{statement}
 use Rattle.commands_codes.proofs.codes.missed_word.Tie as tie
 
