@@ -3,7 +3,6 @@ use card::Act;
 use card::Entry;
 use card::Rights;
 ghost use mathlib.Core.Path.{_≡_};
-ghost use mathlib.Core.Bool.{true, false};
 ghost use mathlib.Core.List.{[]};
 ghost use Rattle.card.specs.Access.{level, fulfilled, allowed, valid, usable, barred, shared};
 ghost use Rattle.card.specs.Answers.{first};

@@ -1,9 +1,9 @@
--- `commands::codes::value_at` meets its contract.
+-- `code_tests::value_at` meets its contract.
 use native.Mathlib.Omega.{arith}
 use borrow.Author.Needs.{needs}
-use Rattle.commands_codes.specs.Keys.{keyed}
-use Rattle.commands_codes.proofs.codes.value_at.Statement.{statement}
-use Rattle.commands_codes.proofs.codes.value_at.Tie as tie
+use Rattle.code_tests.specs.Keys.{keyed}
+use Rattle.code_tests.proofs.value_at.Statement.{statement}
+use Rattle.code_tests.proofs.value_at.Tie as tie
 
 enum-told : tie.Need-enum-told
 enum-told c = search needs

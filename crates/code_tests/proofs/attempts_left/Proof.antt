@@ -1,8 +1,8 @@
--- `commands::codes::attempts_left` meets its contract.
+-- `code_tests::attempts_left` meets its contract.
 use borrow.Author.Needs.{needs}
-use Rattle.commands_codes.specs.Keys.{keyed}
-use Rattle.commands_codes.proofs.codes.attempts_left.Statement.{statement}
-use Rattle.commands_codes.proofs.codes.attempts_left.Tie as tie
+use Rattle.code_tests.specs.Keys.{keyed}
+use Rattle.code_tests.proofs.attempts_left.Statement.{statement}
+use Rattle.code_tests.proofs.attempts_left.Tie as tie
 
 enum-told : tie.Need-enum-told
 enum-told c = search needs

@@ -1,9 +1,9 @@
--- `commands::codes::missed_word` meets its contract.
+-- `code_tests::missed_word` meets its contract.
 use borrow.Author.Tests.{eq-eqb, ne-eqb}
-use Rattle.commands_codes.specs.Keys.{missedWord}
+use Rattle.code_tests.specs.Keys.{missedWord}
 use Rattle.access.proofs.Refusals.{indeed, otherwise}
-use Rattle.commands_codes.proofs.codes.missed_word.Statement.{statement}
-use Rattle.commands_codes.proofs.codes.missed_word.Tie as tie
+use Rattle.code_tests.proofs.missed_word.Statement.{statement}
+use Rattle.code_tests.proofs.missed_word.Tie as tie
 
 returns : tie.Need-returns
 unfolding missedWord

@@ -1,9 +1,9 @@
--- `commands::codes::untestable` meets its contract.
-use Rattle.commands_codes.specs.Keys.{keyed}
-use Rattle.commands_codes.proofs.Trials.{unready, blocked, contradicted, testable}
+-- `code_tests::untestable` meets its contract.
+use Rattle.code_tests.specs.Keys.{keyed}
+use Rattle.code_tests.proofs.Trials.{unready, blocked, contradicted, testable}
 use borrow.Author.Needs.{needs}
-use Rattle.commands_codes.proofs.codes.untestable.Statement.{statement}
-use Rattle.commands_codes.proofs.codes.untestable.Tie as tie
+use Rattle.code_tests.proofs.untestable.Statement.{statement}
+use Rattle.code_tests.proofs.untestable.Tie as tie
 
 ready-requires : tie.Need-ready-requires
 ready-requires c κs = search needs

@@ -1,4 +1,4 @@
--- `commands::codes::tested` meets its contract.
+-- `code_tests::tested` meets its contract.
 use Prim.Native.Nat.{ℕ}
 use mathlib.Core.List.{[]}
 use mathlib.Core.Path.{sym, ap, _∙_}
@@ -8,11 +8,11 @@ use Rattle.card.specs.declared.Session.{Session}
 use Rattle.card.specs.Answers.{reply, refusal}
 use Rattle.card.specs.Sessions.{presents}
 use Rattle.commands.specs.Gives.{brief}
-use Rattle.commands_codes.specs.Keys.{keyed}
-use Rattle.commands_codes.proofs.Trials.{untested, missed, right, some, compared}
+use Rattle.code_tests.specs.Keys.{keyed}
+use Rattle.code_tests.proofs.Trials.{untested, missed, right, some, compared}
 use borrow.Author.Needs.{needs}
-use Rattle.commands_codes.proofs.codes.tested.Statement.{statement}
-use Rattle.commands_codes.proofs.codes.tested.Tie as tie
+use Rattle.code_tests.proofs.tested.Statement.{statement}
+use Rattle.code_tests.proofs.tested.Tie as tie
 
 code-requires : tie.Need-code-requires
 code-requires c κs = search needs

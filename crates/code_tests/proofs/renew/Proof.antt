@@ -1,12 +1,12 @@
--- `commands::codes::renew` meets its contract.
+-- `code_tests::renew` meets its contract.
 use mathlib.Core.Path.{_∙_}
 use native.Mathlib.Omega.{arith}
 use lib.ListN.{length-set}
 use denote.Ref.{now}
-use Rattle.commands_codes.proofs.Trials.{anew}
+use Rattle.code_tests.proofs.Trials.{anew}
 use borrow.Author.Needs.{needs}
-use Rattle.commands_codes.proofs.codes.renew.Statement.{statement}
-use Rattle.commands_codes.proofs.codes.renew.Tie as tie
+use Rattle.code_tests.proofs.renew.Statement.{statement}
+use Rattle.code_tests.proofs.renew.Tie as tie
 
 slice-write-e : tie.Need-slice-write-e
 slice-write-e c = search needs

@@ -1,8 +1,8 @@
--- `commands::codes::ready` meets its contract.
+-- `code_tests::ready` meets its contract.
 use borrow.Author.Needs.{needs}
-use Rattle.commands_codes.specs.Keys.{keyed}
-use Rattle.commands_codes.proofs.codes.ready.Statement.{statement}
-use Rattle.commands_codes.proofs.codes.ready.Tie as tie
+use Rattle.code_tests.specs.Keys.{keyed}
+use Rattle.code_tests.proofs.ready.Statement.{statement}
+use Rattle.code_tests.proofs.ready.Tie as tie
 
 enum-told : tie.Need-enum-told
 enum-told c = search needs

@@ -1,8 +1,8 @@
--- `commands::codes::code` meets its contract.
+-- `code_tests::code` meets its contract.
 use Rattle.card.specs.Layout.{codeEntry}
 use borrow.Author.Needs.{needs}
-use Rattle.commands_codes.proofs.codes.code.Statement.{statement}
-use Rattle.commands_codes.proofs.codes.code.Tie as tie
+use Rattle.code_tests.proofs.code.Statement.{statement}
+use Rattle.code_tests.proofs.code.Tie as tie
 
 shared-slice-read-t3 : tie.Need-shared-slice-read-t3
 shared-slice-read-t3 c = search needs

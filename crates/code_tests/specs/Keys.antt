@@ -8,8 +8,8 @@ use lib.Dec.{eqb}
 use Rattle.card.specs.Answers.{Refusal, _says_}
 use Rattle.card.specs.Codes as card
 use Rattle.card.specs.declared.Code.{Code}
-use Rattle.commands_codes.specs.declared.codes.Key.{Key}
-use Rattle.commands_codes.specs.declared.codes.Key.the-variants.{Chv, Unblocking}
+use Rattle.code_tests.specs.declared.Key.{Key}
+use Rattle.code_tests.specs.declared.Key.the-variants.{Chv, Unblocking}
 
 unfoldable pub keyed : Key → card.Key
 keyed Chv = card.Key.chv
@@ -34,8 +34,3 @@ pub record Tried (l d n : List ℕ) : Type 0 where
   pub entry : length l ≡ 20
   pub given : length d ≡ 8
   pub new : length n ≡ 8
-
--- An entry, and what a command sends.
-pub record Sized (l d : List ℕ) (n : ℕ) : Type 0 where
-  pub entry : length l ≡ 20
-  pub sent : length d ≡ n
