@@ -3,11 +3,11 @@ use Prim.Native.Nat.{ℕ}
 use mathlib.Core.Bool.{Bool}
 use Rattle.card.specs.Answers.{Refusal}
 use Rattle.card.specs.Forms.{Form, both, any, mode, seekMode, codeNumber, exactly, upTo, some, free}
-use Rattle.forms.specs.declared.Pair.{Pair}
-use Rattle.forms.specs.declared.Pair.the-variants.{Both, Any, Mode, SeekMode, CodeNumber}
-use Rattle.forms.specs.declared.Count.{Count}
-use Rattle.forms.specs.declared.Count.the-variants.{Exactly, UpTo, Some, Free}
-use Rattle.forms.specs.declared.Shape.{Shape}
+use Rattle.shapes.specs.declared.Pair.{Pair}
+use Rattle.shapes.specs.declared.Pair.the-variants.{Both, Any, Mode, SeekMode, CodeNumber}
+use Rattle.shapes.specs.declared.Count.{Count}
+use Rattle.shapes.specs.declared.Count.the-variants.{Exactly, UpTo, Some, Free}
+use Rattle.shapes.specs.declared.Shape.{Shape}
 
 abbrev pub pairs : Pair → ℕ → ℕ → Bool
 pairs (Both a b) = both a b

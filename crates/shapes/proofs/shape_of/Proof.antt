@@ -1,9 +1,9 @@
--- `forms::shape_of` meets its contract: at each arm the form is that of the variant that was matched.
+-- `shapes::shape_of` meets its contract: at each arm the form is that of the variant that was matched.
 use mathlib.Core.Path.{sym, ap, _∙_}
 use borrow.Author.Needs.{needs}
 use Rattle.card.specs.Forms.{formOf}
-use Rattle.forms.proofs.shape_of.Statement.{statement}
-use Rattle.forms.proofs.shape_of.Tie as tie
+use Rattle.shapes.proofs.shape_of.Statement.{statement}
+use Rattle.shapes.proofs.shape_of.Tie as tie
 
 pub shape-of-spec : {M : Type 1} → statement M
 shape-of-spec =
