@@ -3,7 +3,7 @@ use card::Entry;
 use card::Index;
 use card::Rights;
 use card::Session;
-use commands::parts::wide_word;
+use parts::wide_word;
 use shelf::read;
 ghost use mathlib.Core.Path.{_≡_};
 ghost use Prim.Native.Nat.{_+_, _*_, _<_, _≤_};

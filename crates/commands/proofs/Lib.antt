@@ -1,5 +1,1 @@
-pub mod Refusals
 pub mod Replies
-pub mod Splices
-pub mod Comparing
-pub mod Waiting

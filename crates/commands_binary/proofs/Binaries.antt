@@ -21,7 +21,7 @@ use Rattle.card.specs.declared.Act.the-variants.{Read, Update}
 use Rattle.commands.specs.declared.answers.Reply.{Reply}
 use Rattle.card.specs.Answers.{laid}
 use Rattle.commands.specs.Gives.{brief, Gives, Writes}
-use Rattle.commands.proofs.Refusals.{sharedFirst, sharedNone, sharedClear, nothing, holding, passing, bySkipping}
+use Rattle.access.proofs.Refusals.{sharedFirst, sharedNone, sharedClear, nothing, holding, passing, bySkipping}
 use Rattle.commands.proofs.Replies.{refused, replied, unwritten, wrote}
 
 module _ (r : Rights) (e : Entry) (a : Act) (at n w : ℕ) (found : w ≡ first (shared r e a (transparent e) [])) where

@@ -1,1 +1,1 @@
-pub mod Trials
+pub mod Renewing

@@ -10,7 +10,7 @@ use borrow.Author.Tests.{eqb-true, ne-eqb}
 use Rattle.card.specs.Layout.{cyclic, counter}
 use Rattle.card.specs.Shelf.{all}
 use Rattle.card.specs.declared.Entry.{Entry}
-use Rattle.commands.proofs.Comparing.{both}
+use Rattle.parts.proofs.Comparing.{both}
 use Rattle.commands_records.proofs.Granted.{second}
 use Rattle.commands_increase.specs.Counts.{Counts}
 

@@ -23,7 +23,7 @@ use Rattle.commands.specs.declared.answers.Reply.{Reply as Told}
 use Rattle.commands.specs.Gives.{brief, Writes}
 use Rattle.commands_records.specs.Stands.{Recorded, Stands}
 use Rattle.commands_increase.specs.Counts.{Counts}
-use Rattle.commands.proofs.Refusals.{nothing, holding, passing, sharedFirst, sharedNone, sharedClear}
+use Rattle.access.proofs.Refusals.{nothing, holding, passing, sharedFirst, sharedNone, sharedClear}
 use Rattle.commands.proofs.Replies.{unwritten, wrote}
 
 -- six bytes, one by one

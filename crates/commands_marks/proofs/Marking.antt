@@ -15,7 +15,7 @@ use Rattle.card.specs.declared.Session.{Session}
 use Rattle.card.specs.declared.Act.the-variants.{Invalidate, Rehabilitate}
 use Rattle.commands.specs.declared.answers.Reply.{Reply}
 use Rattle.commands.specs.Gives.{brief, Marks}
-use Rattle.commands.proofs.Refusals.{unbarred}
+use Rattle.access.proofs.Refusals.{unbarred}
 use Rattle.commands.proofs.Replies.{unmarked, remarked}
 
 module _ (r : Rights) (e : Entry) (s : Session) (w : ℕ) (found : w ≡ first (shared r e Invalidate true [])) where

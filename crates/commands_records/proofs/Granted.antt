@@ -15,7 +15,7 @@ use Rattle.card.specs.declared.Entry.{Entry}
 use Rattle.card.specs.declared.Pointer.{Pointer}
 use Rattle.card.specs.declared.Pointer.the-variants.{Undefined, At}
 use Rattle.commands_records.specs.Stands.{Recorded, Stands}
-use Rattle.commands.proofs.Comparing.{both}
+use Rattle.parts.proofs.Comparing.{both}
 
 -- the second of two tests, where the first fails
 pub second : (a b : Bool) → (a || b) ≡ true → a ≡ false → b ≡ true

@@ -25,7 +25,7 @@ use Rattle.commands.specs.declared.answers.Reply.{Reply as Told}
 use Rattle.card.specs.Answers.{laid}
 use Rattle.commands.specs.Gives.{brief, Gives, Writes}
 use Rattle.commands_records.specs.Stands.{Recorded, Stands}
-use Rattle.commands.proofs.Refusals.{sharedFirst, sharedNone, sharedClear, nothing, holding, passing, bySkipping, indeed, otherwise}
+use Rattle.access.proofs.Refusals.{sharedFirst, sharedNone, sharedClear, nothing, holding, passing, bySkipping, indeed, otherwise}
 use Rattle.commands.proofs.Replies.{refused, replied, unwritten, wrote}
 
 module _ (e : Entry) (p : Pointer) (k n : ℕ) (is : p ≡ At k) (counted : n ≡ records e) where

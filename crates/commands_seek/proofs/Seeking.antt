@@ -24,9 +24,9 @@ use Rattle.commands.specs.declared.answers.Reply.{Reply as Told}
 use Rattle.commands_seek.specs.Along.{along, Ranges}
 use Rattle.commands.specs.Gives.{brief, Says}
 use Rattle.commands_records.specs.Stands.{Recorded, Stands}
-use Rattle.commands.proofs.Refusals.{indeed, otherwise, nothing, holding, passing, sharedFirst, sharedNone, sharedClear}
+use Rattle.access.proofs.Refusals.{indeed, otherwise, nothing, holding, passing, sharedFirst, sharedNone, sharedClear}
 use Rattle.commands.proofs.Replies.{refusedWith, said}
-use Rattle.commands.proofs.Comparing.{rest, sameMiss, sameEnd}
+use Rattle.parts.proofs.Comparing.{rest, sameMiss, sameEnd}
 
 module _ (p : ℕ → Bool) (n i : ℕ) where
   -- a number that fails is passed, one that passes is found, and past the last is the end

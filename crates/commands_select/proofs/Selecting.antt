@@ -18,7 +18,7 @@ use Rattle.commands.specs.declared.answers.Reply.{Reply as Told}
 use Rattle.card.specs.Answers.{laid}
 use Rattle.commands.specs.Gives.{brief, Gives, Says}
 use Rattle.commands_select.specs.Finds.{Leads, Names, Misses}
-use Rattle.commands.proofs.Refusals.{indeed, otherwise}
+use Rattle.access.proofs.Refusals.{indeed, otherwise}
 
 -- where the number asked for is not refused, it is no more than what waits
 latter : (a b : Bool) → (a || b) ≡ false → b ≡ false

@@ -11,7 +11,7 @@ use Rattle.card.specs.Answers.{Refusal, first, _says_}
 use Rattle.card.specs.Forms.{formOf, formed, sent, codeNumber, exactly, upTo}
 use Rattle.card.specs.declared.Instruction.{Instruction}
 use Rattle.card.proofs.Tests.{both, one-of}
-use Rattle.commands.proofs.Refusals.{indeed}
+use Rattle.access.proofs.Refusals.{indeed}
 
 -- three refusals of which none holds
 clear : (a b : Bool) (r : Refusal) → first (a says 0x6d00 ∷ b says 0x6b00 ∷ r ∷ []) ≡ 0 → (b ≡ false) × (first (r ∷ []) ≡ 0)

@@ -7,7 +7,7 @@ use borrow.Author.Tests.{ne-eqb}
 use Rattle.card.specs.Forms.{among}
 use Rattle.card.specs.declared.Instruction.{Instruction}
 use Rattle.card.specs.declared.Instruction.the-variants.{Unknown}
-use Rattle.commands.proofs.Refusals.{otherwise}
+use Rattle.access.proofs.Refusals.{otherwise}
 
 -- no number of the table, told from the first to the last after what was told before, as a `match` tells it
 abbrev pub Past : Type 0 → List (ℕ × Instruction) → ℕ → Type 0

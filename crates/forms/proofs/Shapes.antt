@@ -6,10 +6,10 @@ use mathlib.Core.Bool.{Bool, true, false, not}
 use Rattle.card.specs.Answers.{first, _says_}
 use Rattle.card.specs.Forms.{Form, formOf, formed, sent}
 use Rattle.card.specs.declared.Instruction.{Instruction}
-use Rattle.commands.proofs.Refusals.{holding, passing, indeed, otherwise}
-use Rattle.forms.specs.Means.{pairs, counts, meaning}
-use Rattle.forms.specs.declared.Count.{Count}
-use Rattle.forms.specs.declared.Shape.{Shape}
+use Rattle.access.proofs.Refusals.{holding, passing, indeed, otherwise}
+use Rattle.shapes.specs.Means.{pairs, counts, meaning}
+use Rattle.shapes.specs.declared.Count.{Count}
+use Rattle.shapes.specs.declared.Shape.{Shape}
 
 -- a rule of P3 by the variant that was matched
 pub counted : {k j : Count} {w : ℕ} (n : ℕ) → k ≡ j → w ≡ first (counts j n ∷ []) → w ≡ first (counts k n ∷ [])

@@ -9,7 +9,7 @@ use lib.ListN.{length, drop}
 use Rattle.card.specs.Seek.{matches}
 use Rattle.card.specs.Bytes.{part, same, firstFrom, find}
 use Rattle.commands_seek.specs.Along.{along}
-use Rattle.commands.proofs.Comparing.{sameOn}
+use Rattle.parts.proofs.Comparing.{sameOn}
 use Rattle.commands_seek.proofs.Seeking.{searchOn, searchHit, searchEnd, lies, fitting, passed, met}
 use Rattle.commands_seek.proofs.find.Statement.{statement}
 use Rattle.commands_seek.proofs.find.Tie as tie

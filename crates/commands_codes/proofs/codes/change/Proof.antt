@@ -1,8 +1,8 @@
--- `commands::codes::change` meets its contract.
+-- `commands_codes::codes::change` meets its contract.
 use mathlib.Core.Path.{refl, sym}
 use denote.Ref.{now}
-use Rattle.commands_codes.specs.Keys.{keyed}
-use Rattle.commands_codes.proofs.Trials.{half, rest, halves, changes}
+use Rattle.code_tests.specs.Keys.{keyed}
+use Rattle.commands_codes.proofs.Renewing.{half, rest, halves, changes}
 use borrow.Author.Needs.{needs}
 use Rattle.commands_codes.proofs.codes.change.Statement.{statement}
 use Rattle.commands_codes.proofs.codes.change.Tie as tie

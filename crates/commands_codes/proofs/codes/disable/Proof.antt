@@ -1,8 +1,8 @@
--- `commands::codes::disable` meets its contract.
+-- `commands_codes::codes::disable` meets its contract.
 use mathlib.Core.Path.{refl}
 use denote.Ref.{now}
-use Rattle.commands_codes.specs.Keys.{keyed}
-use Rattle.commands_codes.proofs.Trials.{disables}
+use Rattle.code_tests.specs.Keys.{keyed}
+use Rattle.commands_codes.proofs.Renewing.{disables}
 use borrow.Author.Needs.{needs}
 use Rattle.commands_codes.proofs.codes.disable.Statement.{statement}
 use Rattle.commands_codes.proofs.codes.disable.Tie as tie

@@ -1,9 +1,9 @@
--- `commands::codes::enable` meets its contract.
+-- `commands_codes::codes::enable` meets its contract.
 use mathlib.Core.Path.{refl, ap}
 use mathlib.Core.Bool.{not}
 use denote.Ref.{now}
-use Rattle.commands_codes.specs.Keys.{keyed}
-use Rattle.commands_codes.proofs.Trials.{enables}
+use Rattle.code_tests.specs.Keys.{keyed}
+use Rattle.commands_codes.proofs.Renewing.{enables}
 use borrow.Author.Needs.{needs}
 use Rattle.commands_codes.proofs.codes.enable.Statement.{statement}
 use Rattle.commands_codes.proofs.codes.enable.Tie as tie

@@ -1,9 +1,9 @@
--- `commands::codes::unblock` meets its contract.
+-- `commands_codes::codes::unblock` meets its contract.
 use mathlib.Core.Path.{refl, sym}
 use mathlib.Core.Bool.{false}
 use denote.Ref.{now}
-use Rattle.commands_codes.specs.Keys.{keyed}
-use Rattle.commands_codes.proofs.Trials.{half, rest, halves, unblocks}
+use Rattle.code_tests.specs.Keys.{keyed}
+use Rattle.commands_codes.proofs.Renewing.{half, rest, halves, unblocks}
 use borrow.Author.Needs.{needs}
 use Rattle.commands_codes.proofs.codes.unblock.Statement.{statement}
 use Rattle.commands_codes.proofs.codes.unblock.Tie as tie

@@ -1,7 +1,7 @@
--- `commands::codes::verify` meets its contract.
+-- `commands_codes::codes::verify` meets its contract.
 use denote.Ref.{now}
-use Rattle.commands_codes.specs.Keys.{keyed}
-use Rattle.commands_codes.proofs.Trials.{verifies}
+use Rattle.code_tests.specs.Keys.{keyed}
+use Rattle.commands_codes.proofs.Renewing.{verifies}
 use borrow.Author.Needs.{needs}
 use Rattle.commands_codes.proofs.codes.verify.Statement.{statement}
 use Rattle.commands_codes.proofs.codes.verify.Tie as tie

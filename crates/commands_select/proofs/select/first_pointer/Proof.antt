@@ -1,6 +1,6 @@
 -- `commands::select::first_pointer` meets its contract.
 use borrow.Author.Tests.{eq-eqb, ne-eqb}
-use Rattle.commands.proofs.Refusals.{indeed, otherwise}
+use Rattle.access.proofs.Refusals.{indeed, otherwise}
 use Rattle.commands_select.proofs.select.first_pointer.Statement.{statement}
 use Rattle.commands_select.proofs.select.first_pointer.Tie as tie
 
