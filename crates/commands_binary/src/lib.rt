@@ -1,10 +1,10 @@
 // READ BINARY and UPDATE BINARY, by value: on a file's entry, its bytes and a session. Each is the definition's function of its name. The
 // functions of this crate ask what was tested before, and only this player's crates call them.
+use access::shared;
 use card::Act;
 use card::Entry;
 use card::Rights;
 use card::Session;
-use access::shared;
 use commands::answers::Reply;
 use commands::answers::refusal;
 use commands::answers::silent;

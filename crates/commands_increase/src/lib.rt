@@ -1,19 +1,19 @@
 // INCREASE, by value: on a file's entry, its bytes and a session. It is the definition's function of its name. The functions of this crate
 // ask what was tested before, and only this player's crates call them.
+use access::shared;
 use card::Act;
 use card::Entry;
 use card::Pointer;
 use card::Rights;
 use card::Session;
-use access::shared;
 use commands::answers::refusal;
 use commands::answers::silent;
-use parts::wide;
-use sessions::points;
-use sessions::waits;
 use commands_records::Written;
 use commands_records::push;
 use commands_records::record_at;
+use parts::wide;
+use sessions::points;
+use sessions::waits;
 ghost use mathlib.Core.Path.{_≡_};
 ghost use mathlib.Core.List.{_++_};
 ghost use Prim.Native.Nat.{_+_, _≤_, _<_};

@@ -1,10 +1,10 @@
 // INVALIDATE and REHABILITATE, by value: on a file's entry and a session. Each is the definition's function of its name. Only this player's
 // crates call them.
+use access::shared;
 use card::Act;
 use card::Entry;
 use card::Rights;
 use card::Session;
-use access::shared;
 use commands::answers::Reply;
 use commands::answers::refusal;
 use commands::answers::silent;
