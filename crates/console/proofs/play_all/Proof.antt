@@ -22,7 +22,7 @@ tested-requires : tie.Need-tested-requires Inv-loop μ-loop
 tested-requires c κs = search needs
 
 loop-holds : tie.Need-loop-holds Inv-loop μ-loop
-loop-holds c = (search needs, (search needs, (search needs, (search needs, c .tested .ensures))))
+loop-holds c = (search needs, (search needs, (search needs, (search needs, c .tested .ensures .1))))
 
 add-k : tie.Need-add-k Inv-loop μ-loop
 add-k c = search needs
