@@ -13,7 +13,6 @@ ghost use mathlib.Core.Path.{_≡_};
 ghost use Prim.Native.Nat.{_≤_, _<_};
 ghost use lib.ListN.{length};
 ghost use Rattle.card.specs.Answers.{first};
-ghost use Rattle.card.specs.Layout.{codeEntry};
 ghost use Rattle.card.specs.Codes.{attemptsLeft, attemptsAt, ready, renewed, tested};
 ghost use Rattle.commands.specs.Gives.{Codes};
 ghost use Rattle.code_tests.specs.Keys.{keyed, valueAt, untestable, missedWord, Tried};
@@ -22,19 +21,6 @@ ghost use Rattle.code_tests.specs.Keys.{keyed, valueAt, untestable, miss
 pub enum Key {
     Chv,
     Unblocking,
-}
-
-// What an entry says, but for its two codes.
-pub fn code(e: &[u8]) -> Code
-    requires { ⌜ length (now e) ≡ 20 ⌝ }
-    ensures { λ r. ⌜ r ≡ codeEntry (now (e .entry)) 0 ⌝ }
-{
-    Code {
-        flags: e[0],
-        attempts: e[1],
-        unblocks: e[2],
-        spare: e[3],
-    }
 }
 
 fn ready(key: Key, k: Code) -> bool
@@ -130,7 +116,7 @@ pub fn tested(
     ensures { λ t. ⌜ Codes (tested (now (e .entry)) s c (keyed key) contradicts (now (given .entry))
         (renewed (now (e .entry)) flags unblocks (now (new .entry)))) t (now (e .exit)) ⌝ }
 {
-    let k = code(e);
+    let k = entries::code(e, 0);
     let word = untestable(key, k, contradicts);
     if word != 0 {
         return refusal(s, word);

@@ -2,7 +2,6 @@
 use card::Code;
 use card::Session;
 use code_tests::Key;
-use code_tests::code;
 use code_tests::tested;
 use commands::answers::Reply;
 ghost use mathlib.Core.Path.{_≡_};
@@ -21,7 +20,7 @@ pub fn verify(e: &mut [u8], s: Session, c: usize, given: &[u8]) -> Reply
     requires { ⌜ Sized (now e) (now given) 8 ⌝ }
     ensures { λ t. ⌜ Codes (verify (now (e .entry)) s c (now (given .entry))) t (now (e .exit)) ⌝ }
 {
-    let k = code(e);
+    let k = entries::code(e, 0);
     let off = disabled(k);
     tested(e, s, c, Key::Chv, off, given, k.flags, k.unblocks, given)
 }
@@ -31,7 +30,7 @@ pub fn change(e: &mut [u8], s: Session, c: usize, given: &[u8]) -> Reply
     requires { ⌜ Sized (now e) (now given) 16 ⌝ }
     ensures { λ t. ⌜ Codes (change (now (e .entry)) s c (now (given .entry))) t (now (e .exit)) ⌝ }
 {
-    let k = code(e);
+    let k = entries::code(e, 0);
     let old = &given[..8];
     let new = &given[8..];
     let off = disabled(k);
@@ -43,7 +42,7 @@ pub fn disable(e: &mut [u8], s: Session, c: usize, given: &[u8]) -> Reply
     requires { ⌜ Sized (now e) (now given) 8 ⌝ }
     ensures { λ t. ⌜ Codes (disable (now (e .entry)) s c (now (given .entry))) t (now (e .exit)) ⌝ }
 {
-    let k = code(e);
+    let k = entries::code(e, 0);
     let flags = k.flags - k.flags % 2 + 1;
     let off = disabled(k);
     tested(e, s, c, Key::Chv, off, given, flags, k.unblocks, given)
@@ -54,7 +53,7 @@ pub fn enable(e: &mut [u8], s: Session, c: usize, given: &[u8]) -> Reply
     requires { ⌜ Sized (now e) (now given) 8 ⌝ }
     ensures { λ t. ⌜ Codes (enable (now (e .entry)) s c (now (given .entry))) t (now (e .exit)) ⌝ }
 {
-    let k = code(e);
+    let k = entries::code(e, 0);
     let flags = k.flags - k.flags % 2;
     let on = !disabled(k);
     tested(e, s, c, Key::Chv, on, given, flags, k.unblocks, given)
@@ -65,7 +64,7 @@ pub fn unblock(e: &mut [u8], s: Session, c: usize, given: &[u8]) -> Reply
     requires { ⌜ Sized (now e) (now given) 16 ⌝ }
     ensures { λ t. ⌜ Codes (unblock (now (e .entry)) s c (now (given .entry))) t (now (e .exit)) ⌝ }
 {
-    let k = code(e);
+    let k = entries::code(e, 0);
     let flags = k.flags - k.flags % 2;
     let old = &given[..8];
     let new = &given[8..];
