@@ -32,8 +32,8 @@ fn count(words: &[String], name: &str, otherwise: u64) -> Result<u64, String> {
 
 fn measure(words: &[String]) -> Result<(), String> {
     let programs = [value(words, "--c")?, value(words, "--rattle")?];
-    let rounds = count(words, "--rounds", 7)? as usize;
-    let seconds = count(words, "--seconds", 230)?;
+    let rounds = count(words, "--rounds", 3)? as usize;
+    let seconds = count(words, "--seconds", 600)?;
     let out = value(words, "--out")?;
     let head = report::Head { date: value(words, "--date")?, machine: value(words, "--machine")? };
     let results = measure::all(&programs, rounds, seconds)?;

@@ -6,9 +6,10 @@ use std::time::Instant;
 
 /// The shorter run, whose time is taken away.
 const FEW: u16 = 1;
-/// Processor time that both programs' longer runs together should take, and the least that tells anything, in seconds.
-const WANTED: f64 = 0.12;
-const ENOUGH: f64 = 0.03;
+/// Processor time that both programs' longer runs together should take, and the least that tells anything, in seconds. A start alone takes
+/// 0.05 to 0.15 under the emulator, and swings by 0.01.
+const WANTED: f64 = 0.8;
+const ENOUGH: f64 = 0.2;
 
 /// Laps to begin with: a guess that is corrected.
 fn guess(files: usize, mode: u8) -> u16 {
@@ -63,8 +64,12 @@ impl Case {
 
     /// Times the few laps, and finds how many laps the rounds take.
     fn set_out(&mut self, programs: &[String; 2]) -> Result<(), String> {
-        let (one, other) = (self.both(programs, FEW)?, self.both(programs, FEW)?);
-        self.few = [(one[0] + other[0]) / 2.0, (one[1] + other[1]) / 2.0];
+        let (one, two, three) = (self.both(programs, FEW)?, self.both(programs, FEW)?, self.both(programs, FEW)?);
+        for (k, few) in self.few.iter_mut().enumerate() {
+            let mut times = [one[k], two[k], three[k]];
+            times.sort_by(f64::total_cmp);
+            *few = times[1];
+        }
         loop {
             let sum: f64 = self.beyond(programs)?.iter().sum();
             if sum >= ENOUGH || self.laps == u16::MAX {
@@ -72,7 +77,7 @@ impl Case {
                 self.laps = scaled.clamp(10.0, f64::from(u16::MAX)) as u16;
                 return Ok(());
             }
-            self.laps = self.laps.saturating_mul(8);
+            self.laps = self.laps.saturating_mul(4);
         }
     }
 

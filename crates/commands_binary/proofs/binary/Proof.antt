@@ -1,4 +1,4 @@
--- `commands::binary::binary` meets its contract.
+-- `commands_binary::binary` meets its contract.
 use native.Mathlib.Omega.{arith}
 use borrow.Author.Needs.{needs}
 use Rattle.commands_binary.proofs.Binaries.{denied, beyond, inside}

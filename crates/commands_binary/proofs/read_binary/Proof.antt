@@ -1,4 +1,4 @@
--- `commands::binary::read_binary` meets its contract.
+-- `commands_binary::read_binary` meets its contract.
 use Prim.Native.Nat.{_+_, _≤_}
 use native.Mathlib.Omega.{arith}
 use lib.ListN.{length}

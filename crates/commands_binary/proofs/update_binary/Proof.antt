@@ -1,4 +1,4 @@
--- `commands::binary::update_binary` meets its contract.
+-- `commands_binary::update_binary` meets its contract.
 use Prim.Native.Nat.{_+_, _≤_}
 use mathlib.Core.List.{[]}
 use mathlib.Core.Path.{ap, _∙_}

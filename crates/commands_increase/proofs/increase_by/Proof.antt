@@ -1,4 +1,4 @@
--- `commands::increase::increase_by` meets its contract.
+-- `commands_increase::increase_by` meets its contract.
 use mathlib.Core.List.{[]}
 use mathlib.Core.Path.{_≡_, sym, ap, _∙_}
 use native.Mathlib.Omega.{arith}

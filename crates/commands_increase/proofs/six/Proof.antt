@@ -1,4 +1,4 @@
--- `commands::increase::six` meets its contract.
+-- `commands_increase::six` meets its contract.
 use denote.Ref.{now}
 use Rattle.commands_increase.proofs.Increasing.{sixfold}
 use borrow.Author.Needs.{needs}

@@ -1,4 +1,4 @@
--- `commands::marks::invalidate` meets its contract.
+-- `commands_marks::invalidate` meets its contract.
 use mathlib.Core.List.{[]}
 use mathlib.Core.Path.{ap, _∙_}
 use borrow.Author.Needs.{needs}

@@ -1,4 +1,4 @@
--- `commands::marks::rehabilitate` meets its contract.
+-- `commands_marks::rehabilitate` meets its contract.
 use mathlib.Core.List.{[]}
 use mathlib.Core.Path.{ap, _∙_}
 use native.Mathlib.Omega.{arith}

@@ -1,4 +1,4 @@
--- `commands::records::absolute` meets its contract.
+-- `commands_records::absolute` meets its contract.
 use borrow.Author.Tests.{le-leb, lt-leb, ne-eqb}
 use borrow.Author.Needs.{needs}
 use Rattle.card.specs.Records.{absolute}

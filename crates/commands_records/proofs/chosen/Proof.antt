@@ -1,4 +1,4 @@
--- `commands::records::chosen` meets its contract.
+-- `commands_records::chosen` meets its contract.
 use borrow.Author.Tests.{eq-eqb, ne-eqb}
 use borrow.Author.Needs.{needs}
 use Rattle.card.specs.Records.{next, previous, absolute, chosen}

@@ -1,4 +1,4 @@
--- `commands::records::moved` meets its contract.
+-- `commands_records::moved` meets its contract.
 use borrow.Author.Tests.{ne-eqb}
 use borrow.Author.Needs.{needs}
 use Rattle.card.specs.Records.{moved}

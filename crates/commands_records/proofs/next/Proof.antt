@@ -1,4 +1,4 @@
--- `commands::records::next` meets its contract.
+-- `commands_records::next` meets its contract.
 use borrow.Author.Needs.{needs}
 use Rattle.commands_records.proofs.Reaching.{nextInside, nextRound, nextNone}
 use Rattle.commands_records.proofs.next.Statement.{statement}

@@ -1,4 +1,4 @@
--- `commands::records::of_record` meets its contract.
+-- `commands_records::of_record` meets its contract.
 use Prim.Native.Nat.{ℕ, _+_}
 use mathlib.Core.Path.{ap, sym, _∙_}
 use borrow.Author.Needs.{needs}

@@ -1,4 +1,4 @@
--- `commands::records::previous` meets its contract.
+-- `commands_records::previous` meets its contract.
 use borrow.Author.Needs.{needs}
 use Rattle.commands_records.proofs.Reaching.{previousInside, previousRound, previousNone}
 use Rattle.commands_records.proofs.previous.Statement.{statement}

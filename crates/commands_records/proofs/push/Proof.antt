@@ -1,4 +1,4 @@
--- `commands::records::push` meets its contract.
+-- `commands_records::push` meets its contract.
 use Prim.Native.Nat.{_+_, _-_, _%_, _<_}
 use mathlib.Core.Path.{_∙_}
 use native.Mathlib.Omega.{arith}

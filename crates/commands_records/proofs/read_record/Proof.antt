@@ -1,4 +1,4 @@
--- `commands::records::read_record` meets its contract.
+-- `commands_records::read_record` meets its contract.
 use Prim.Native.Nat.{ℕ, _+_, _≤_}
 use mathlib.Core.Bool.{not}
 use mathlib.Core.Path.{_≡_, ap, _∙_}

@@ -1,4 +1,4 @@
--- `commands::records::record_at` meets its contract.
+-- `commands_records::record_at` meets its contract.
 use native.Mathlib.Omega.{arith}
 use borrow.Author.Needs.{needs}
 use Rattle.commands_records.proofs.Reaching.{located, placed}

@@ -1,4 +1,4 @@
--- `commands::records::update_record` meets its contract.
+-- `commands_records::update_record` meets its contract.
 use Prim.Native.Nat.{ℕ}
 use mathlib.Core.Bool.{Bool}
 use mathlib.Core.List.{[]}

@@ -1,4 +1,4 @@
--- `commands::seek::along` meets its contract.
+-- `commands_seek::along` meets its contract.
 use Prim.Native.Nat.{_<_}
 use mathlib.Core.Bool.{false}
 use native.Mathlib.Omega.{arith}

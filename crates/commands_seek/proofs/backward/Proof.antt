@@ -1,4 +1,4 @@
--- `commands::seek::backward` meets its contract.
+-- `commands_seek::backward` meets its contract.
 use Prim.Native.Nat.{_-_}
 use native.Mathlib.Omega.{arith}
 use denote.Ref.{now}

@@ -1,4 +1,4 @@
--- `commands::seek::find` meets its contract.
+-- `commands_seek::find` meets its contract.
 use Prim.Native.Nat.{ℕ, _-_, _≤_}
 use mathlib.Core.Bool.{true, false}
 use mathlib.Core.Path.{_≡_, refl, sym, ap, _∙_}

@@ -1,4 +1,4 @@
--- `commands::seek::forward` meets its contract.
+-- `commands_seek::forward` meets its contract.
 use Prim.Native.Nat.{_-_}
 use native.Mathlib.Omega.{arith}
 use denote.Ref.{now}

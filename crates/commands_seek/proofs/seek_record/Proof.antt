@@ -1,4 +1,4 @@
--- `commands::seek::seek_record` meets its contract.
+-- `commands_seek::seek_record` meets its contract.
 use Prim.Native.Nat.{_%_, ℕ, _+_, _-_, _*_, _≤_}
 use mathlib.Core.List.{[], _∷_}
 use mathlib.Core.Path.{_≡_, sym, ap, _∙_}

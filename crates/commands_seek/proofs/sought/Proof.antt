@@ -1,4 +1,4 @@
--- `commands::seek::sought` meets its contract.
+-- `commands_seek::sought` meets its contract.
 use Prim.Native.Nat.{_-_, _≤_}
 use mathlib.Core.Path.{_≡_, sym, ap, _∙_}
 use native.Mathlib.Nat.{le-trans, mul-le-mul-right}

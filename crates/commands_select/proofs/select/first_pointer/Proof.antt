@@ -1,4 +1,4 @@
--- `commands::select::first_pointer` meets its contract.
+-- `commands_select::select::first_pointer` meets its contract.
 use borrow.Author.Tests.{eq-eqb, ne-eqb}
 use Rattle.access.proofs.Refusals.{indeed, otherwise}
 use Rattle.commands_select.proofs.select.first_pointer.Statement.{statement}

@@ -1,4 +1,4 @@
--- `commands::select::get_response` meets its contract.
+-- `commands_select::select::get_response` meets its contract.
 use Prim.Native.Nat.{_≤_}
 use mathlib.Core.Path.{_≡_}
 use native.Mathlib.Omega.{arith}

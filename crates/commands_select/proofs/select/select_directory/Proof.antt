@@ -1,4 +1,4 @@
--- `commands::select::select_directory` meets its contract.
+-- `commands_select::select::select_directory` meets its contract.
 use mathlib.Core.List.{[]}
 use mathlib.Core.Path.{ap, _∙_}
 use Rattle.card.specs.Answers.{reply}

@@ -1,4 +1,4 @@
--- `commands::select::select_nothing` meets its contract.
+-- `commands_select::select::select_nothing` meets its contract.
 use Rattle.commands_select.proofs.Selecting.{toNothing}
 use borrow.Author.Needs.{needs}
 use Rattle.commands_select.proofs.select.select_nothing.Statement.{statement}

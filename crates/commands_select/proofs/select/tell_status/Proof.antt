@@ -1,4 +1,4 @@
--- `commands::select::tell_status` meets its contract.
+-- `commands_select::select::tell_status` meets its contract.
 use mathlib.Core.Path.{_≡_}
 use native.Mathlib.Omega.{arith}
 use lib.ListN.{length}
