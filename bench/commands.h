@@ -30,7 +30,7 @@ HOT void copy(u8 *to, const u8 *from, u32 count)
 }
 
 HOT u8 *entry_of(struct card *c) { return c->image + c->x->entries + ENTRY * (u32)c->s->file; }
-HOT u8 *bytes_of(struct card *c) { return c->image + c->x->bytes + c->x->start[c->s->file]; }
+HOT u8 *bytes_of(struct card *c) { return c->image + c->x->bytes + start_of(c->image, c->x, (u32)c->s->file); }
 
 HOT int allowed(const struct card *c, u32 level)
 {
@@ -49,7 +49,7 @@ HOT int reached(const struct card *c, u32 high, u32 low)
     else if (high == 0x5F) at = own[0] == 0x5F ? own[2] : d;
     else return NONE;
     if (at == 0 && high == 0x5F) return NONE;
-    u32 found = c->x->directory_slot[at * 256 + low] ^ c->x->stamp;
+    u32 found = directory_named(c->image, c->x, at, low);
     if (found >= 256) return NONE;
     return own[0] == 0x5F && high == 0x7F && found != own[2] ? NONE : (int)found;
 }
@@ -58,8 +58,9 @@ HOT u32 play_select(struct card *c, const u8 *data)
 {
     struct session *s = c->s;
     u32 d = s->directory, low = data[1];
-    if (data[0] == c->x->high[d]) {
-        u32 found = c->x->file_slot[d * 256 + low] ^ c->x->stamp;
+    u32 own = c->image[DIRECTORIES + 2 + 8 * d];
+    if (data[0] == (own == 0x3F ? 0x2F : own ^ 0x10)) {
+        u32 found = file_named(c->image, c->x, d, low);
         if (found >= 256) return answer(c, 0, 0x9404);
         s->file = (int)found;
         const u8 *entry = entry_of(c);

@@ -35,27 +35,29 @@ HOT u32 digest(struct outcome o, const u8 *response)
     return sum;
 }
 
-static u32 tested_lap(const struct list *list, struct session *s)
+/* One command, with every test or trusting the test of the lap. */
+HOT u32 step(int tested, struct session *s, const u8 *command, u32 count)
 {
-    const u8 *at = list->bytes;
-    u32 sum = 0;
-    for (u32 i = 0; i < list->many; i++) {
-        u32 count = load2(at);
-        sum += digest(play(image, image_length, s, room, ROOM, at + 2, count, &of_image), room);
-        at += 2 + count;
-    }
-    return sum;
+#ifdef INDEX_KEPT
+    struct card c = { image, &of_image, s, room };
+    if (!tested) return digest(play(image, image_length, s, command, count, room, ROOM, &of_image), room);
+    u32 written = play_card(&c, command, count);
+    return digest((struct outcome){ written == 0 ? 4 : 0, written }, room);
+#else
+    struct played p = tested ? play_on(image, *s, command, count, room, ROOM) : play(image, image_length, *s, command, count, room, ROOM);
+    *s = p.s;
+    return digest(p.o, room);
+#endif
 }
 
-static u32 trusting_lap(const struct list *list, struct session *s)
+static u32 lap(int once, const struct list *list, struct session *s)
 {
     const u8 *at = list->bytes;
-    struct card c = { image, &of_image, s, room };
-    u32 sum = 0, refused = !is_image(image, image_length, &of_image) ? 1 : !fits(s, image, &of_image) ? 2 : 0;
+    u32 sum = 0, refused = !once ? 0 : !is_image(image, image_length, &of_image) ? 1 : !fits(s, image, &of_image) ? 2 : 0;
     if (refused) return list->many * refused * 7;
     for (u32 i = 0; i < list->many; i++) {
-        u32 count = load2(at), written = play_card(&c, at + 2, count);
-        sum += digest((struct outcome){ written == 0 ? 4 : 0, written }, room);
+        u32 count = load2(at);
+        sum += step(once, s, at + 2, count);
         at += 2 + count;
     }
     return sum;
@@ -69,7 +71,7 @@ static int play_laps(void)
     u32 laps, answers = 0, left = 0;
     reset(&session);
     if (!take(&mode, 1) || !take_number(&laps) || !take_image() || !take_list(&list)) return 0;
-    for (u32 i = 0; i < laps; i++) answers += mode == 0 ? tested_lap(&list, &session) : trusting_lap(&list, &session);
+    for (u32 i = 0; i < laps; i++) answers += lap(mode != 0, &list, &session);
     for (u32 i = 0; i < image_length; i++) left += (i + 1) * image[i];
     put_number(answers);
     put(' ');

@@ -12,7 +12,7 @@ use std::io::Write;
 
 const USAGE: &str = "usage: bench check --second CMD --laps CMD...
        bench input --files N --family N --mode N --laps N
-       bench measure --rattle CMD --c CMD --out FILE --date DATE --machine TEXT [--rounds N] [--seconds N]";
+       bench measure --rattle CMD --c CMD --kept CMD --out FILE --date DATE --machine TEXT [--rounds N] [--seconds N]";
 
 /// The words after `--name`, in their order.
 fn values(words: &[String], name: &str) -> Vec<String> {
@@ -31,7 +31,7 @@ fn count(words: &[String], name: &str, otherwise: u64) -> Result<u64, String> {
 }
 
 fn measure(words: &[String]) -> Result<(), String> {
-    let programs = [value(words, "--c")?, value(words, "--rattle")?];
+    let programs = [value(words, "--c")?, value(words, "--rattle")?, value(words, "--kept")?];
     let rounds = count(words, "--rounds", 3)? as usize;
     let seconds = count(words, "--seconds", 600)?;
     let out = value(words, "--out")?;

@@ -1,4 +1,4 @@
-//! Timing both programs on the same laps.
+//! Timing the programs on the same laps.
 
 use crate::lists::{self, Family};
 use crate::{cards, process};
@@ -6,9 +6,9 @@ use std::time::Instant;
 
 /// The shorter run, whose time is taken away.
 const FEW: u16 = 1;
-/// Processor time that both programs' longer runs together should take, and the least that tells anything, in seconds. A start alone takes
+/// Processor time that the programs' longer runs together should take, and the least that tells anything, in seconds. A start alone takes
 /// 0.05 to 0.15 under the emulator, and swings by 0.01.
-const WANTED: f64 = 0.8;
+const WANTED: f64 = 1.0;
 const ENOUGH: f64 = 0.2;
 
 /// Laps to begin with: a guess that is corrected.
@@ -16,14 +16,17 @@ fn guess(files: usize, mode: u8) -> u16 {
     if mode == 0 { (24_000 / (files + 10)) as u16 } else { 5000 }
 }
 
-/// One family on one image in one mode. Times are seconds for one command, one for each round, of the C player and the Rattle program.
+/// The programs: the C player, the Rattle program, and the C player with an index kept between commands.
+pub const PROGRAMS: usize = 3;
+
+/// One family on one image in one mode. Times are seconds for one command, one for each round, of each program.
 pub struct Case {
     pub files: usize,
     pub family: &'static str,
     pub mode: u8,
     pub laps: u16,
-    pub times: [Vec<f64>; 2],
-    few: [f64; 2],
+    pub times: [Vec<f64>; PROGRAMS],
+    few: [f64; PROGRAMS],
     playing: Vec<u8>,
     commands: usize,
 }
@@ -37,38 +40,46 @@ impl Case {
             family: family.name,
             mode,
             laps: guess(files, mode),
-            times: [Vec::new(), Vec::new()],
-            few: [0.0; 2],
+            times: [const { Vec::new() }; PROGRAMS],
+            few: [0.0; PROGRAMS],
             playing,
             commands: commands.len(),
         }
     }
 
-    /// Seconds of both programs for that many laps; their sums must be equal.
-    fn both(&self, programs: &[String; 2], laps: u16) -> Result<[f64; 2], String> {
+    /// Seconds of each program for that many laps; their sums must be equal.
+    fn each(&self, programs: &[String; PROGRAMS], laps: u16) -> Result<[f64; PROGRAMS], String> {
         let input = lists::laps(self.mode, laps, &self.playing);
-        let one = process::run(&programs[0], &input)?;
-        let other = process::run(&programs[1], &input)?;
-        if one.output != other.output || one.output == "short input\n" {
-            let what = format!("{} files, {}, mode {}, {laps} laps", self.files, self.family, self.mode);
-            return Err(format!("{what}: the sums differ: {}, {}", one.output.trim_end(), other.output.trim_end()));
+        let mut seconds = [0.0; PROGRAMS];
+        let mut first = String::new();
+        for (program, seconds) in programs.iter().zip(&mut seconds) {
+            let ended = process::run(program, &input)?;
+            if first.is_empty() {
+                first = ended.output.clone();
+            }
+            if ended.output != first || first == "short input\n" {
+                let what = format!("{} files, {}, mode {}, {laps} laps", self.files, self.family, self.mode);
+                return Err(format!("{what}: the sums differ: {}, {}", first.trim_end(), ended.output.trim_end()));
+            }
+            *seconds = ended.seconds;
         }
-        Ok([one.seconds, other.seconds])
+        Ok(seconds)
     }
 
-    /// Seconds of both programs for the laps beyond the few.
-    fn beyond(&self, programs: &[String; 2]) -> Result<[f64; 2], String> {
-        let many = self.both(programs, self.laps)?;
-        Ok([many[0] - self.few[0], many[1] - self.few[1]])
+    /// Seconds of each program for the laps beyond the few.
+    fn beyond(&self, programs: &[String; PROGRAMS]) -> Result<[f64; PROGRAMS], String> {
+        let mut many = self.each(programs, self.laps)?;
+        many.iter_mut().zip(self.few).for_each(|(seconds, few)| *seconds -= few);
+        Ok(many)
     }
 
-    /// Times the few laps, and finds how many laps the rounds take.
-    fn set_out(&mut self, programs: &[String; 2]) -> Result<(), String> {
-        let (one, two, three) = (self.both(programs, FEW)?, self.both(programs, FEW)?, self.both(programs, FEW)?);
-        for (k, few) in self.few.iter_mut().enumerate() {
-            let mut times = [one[k], two[k], three[k]];
+    /// Times the few laps, the median of three, and finds how many laps the rounds take.
+    fn set_out(&mut self, programs: &[String; PROGRAMS]) -> Result<(), String> {
+        let few = [self.each(programs, FEW)?, self.each(programs, FEW)?, self.each(programs, FEW)?];
+        for (k, least) in self.few.iter_mut().enumerate() {
+            let mut times = few.map(|seconds| seconds[k]);
             times.sort_by(f64::total_cmp);
-            *few = times[1];
+            *least = times[1];
         }
         loop {
             let sum: f64 = self.beyond(programs)?.iter().sum();
@@ -81,7 +92,7 @@ impl Case {
         }
     }
 
-    fn round(&mut self, programs: &[String; 2]) -> Result<(), String> {
+    fn round(&mut self, programs: &[String; PROGRAMS]) -> Result<(), String> {
         let seconds = self.beyond(programs)?;
         let played = f64::from(self.laps - FEW) * self.commands as f64;
         for (times, seconds) in self.times.iter_mut().zip(seconds) {
@@ -97,7 +108,7 @@ pub struct Results {
 }
 
 /// Rounds over all cases, as many as are asked for and fit into the seconds.
-pub fn all(programs: &[String; 2], rounds: usize, seconds: u64) -> Result<Results, String> {
+pub fn all(programs: &[String; PROGRAMS], rounds: usize, seconds: u64) -> Result<Results, String> {
     let start = Instant::now();
     let mut cases = Vec::new();
     for mode in [0, 1] {

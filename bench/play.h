@@ -89,8 +89,9 @@ struct outcome {
     u32 host, count;
 };
 
-/* One command with every test. The index is filled anew. */
-HOT struct outcome play(u8 *image, u32 length, struct session *s, u8 *room, u32 size, const u8 *command, u32 count, struct index *x)
+#ifdef INDEX_KEPT
+/* One command with every test. The index is filled anew, in memory that is kept. */
+HOT struct outcome play(u8 *image, u32 length, struct session *s, const u8 *command, u32 count, u8 *room, u32 size, struct index *x)
 {
     struct card c = { image, x, s, room };
     if (!is_image(image, length, x)) return (struct outcome){ 1, 0 };
@@ -99,3 +100,34 @@ HOT struct outcome play(u8 *image, u32 length, struct session *s, u8 *room, u32 
     u32 written = play_card(&c, command, count);
     return (struct outcome){ written == 0 ? 4 : 0, written };
 }
+#else
+/* As the Rattle player's `play` and `play_on`: everything is in the arguments, the session goes in and comes back by value, and nothing is
+   kept between commands. */
+struct played {
+    struct outcome o;
+    struct session s;
+};
+
+HOT struct played play_ready(u8 *image, struct session s, const u8 *command, u32 count, u8 *room, u32 size, struct index *x)
+{
+    struct card c = { image, x, &s, room };
+    if (size < 258) return (struct played){ { 3, 0 }, s };
+    u32 written = play_card(&c, command, count);
+    return (struct played){ { written == 0 ? 4 : 0, written }, s };
+}
+
+static __attribute__((noinline)) struct played play(u8 *image, u32 length, struct session s, const u8 *command, u32 count, u8 *room, u32 size)
+{
+    struct index x;
+    if (!is_image(image, length, &x)) return (struct played){ { 1, 0 }, s };
+    if (!fits(&s, image, &x)) return (struct played){ { 2, 0 }, s };
+    return play_ready(image, s, command, count, room, size, &x);
+}
+
+static __attribute__((noinline)) struct played play_on(u8 *image, struct session s, const u8 *command, u32 count, u8 *room, u32 size)
+{
+    struct index x;
+    find_index(image, &x);
+    return play_ready(image, s, command, count, room, size, &x);
+}
+#endif

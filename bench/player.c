@@ -1,8 +1,10 @@
 /* A plain C player of card images: what the playing program is measured against. Standard input holds a two-byte count and the image,
    the number of commands, and each command after its count. One line a command goes out: number, host answer, response.
-   With `--image` a last line `image HEX` follows. With `laps`: see laps.h. Needs read, write, realloc and _exit. */
+   With `--image` a last line `image HEX` follows. With `laps`: see laps.h. Compiled with INDEX_KEPT it keeps an index between commands.
+   Needs read, write, realloc and _exit. */
 
 #include "shelf.h"
+#include "lookup.h"
 #include "session.h"
 #include "commands.h"
 #include "search.h"
@@ -97,7 +99,13 @@ static int play_all(void)
     if (!take_image() || !take_number(&many)) return 0;
     for (u32 i = 1; i <= many; i++) {
         if (!take_number(&count) || !take(command, count)) return 0;
-        struct outcome o = play(image, image_length, &session, room, ROOM, command, count, &of_image);
+#ifdef INDEX_KEPT
+        struct outcome o = play(image, image_length, &session, command, count, room, ROOM, &of_image);
+#else
+        struct played p = play(image, image_length, session, command, count, room, ROOM);
+        struct outcome o = p.o;
+        session = p.s;
+#endif
         put_number(i);
         put(' ');
         put_number(o.host);

@@ -54,7 +54,7 @@ HOT void tell_directory(u64 *words, const u8 *image, const struct index *x, u32 
     u32 one = load4(image + 2), two = load4(image + 22);
     u64 features = (e >> 24 & 0xFF) | (one & 1) << 7;
     words[0] = (e >> 32 & 0xFFFF) << 16 | (e & 0xFFFF) << 32 | (d == 0 ? 1ul : 2ul) << 48;
-    words[1] = 9ul << 32 | features << 40 | (u64)x->children[d] << 48 | (u64)x->elements[d] << 56;
+    words[1] = 9ul << 32 | features << 40 | (u64)children_of(image, x, d) << 48 | (u64)elements_of(image, x, d) << 56;
     words[2] = (e >> 48 & 0xFF) | (u64)((one & 0x80) + (one >> 8 & 0xFF)) << 16
         | (u64)((one & 0x40) * 2 + (one >> 16 & 0xFF)) << 24 | (u64)((two & 0x80) + (two >> 8 & 0xFF)) << 32
         | (u64)((two & 0x40) * 2 + (two >> 16 & 0xFF)) << 40;

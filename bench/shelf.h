@@ -1,5 +1,5 @@
-/* The shelf form: whether a list of bytes is an image (paper 01), found in one pass over its entries, with an index of what the
-   commands look up. Written for a little-endian machine that reads words from any place. */
+/* The shelf form: whether a list of bytes is an image (paper 01), found in one pass over its entries. Written for a little-endian machine
+   that reads words from any place. */
 
 typedef unsigned char u8;
 typedef unsigned short u16;
@@ -10,20 +10,32 @@ typedef unsigned long u64;
 
 enum { CODES = 2, DIRECTORIES = 42, MOST_DIRECTORIES = 32, MOST_FILES = 200, MOST_BYTES = 24576, ENTRY = 14 };
 
-/* Where things are. An entry is known by its parent's number and the low byte of its identifier: the high byte follows from the parent.
-   A slot holds `stamp` plus the entry's number where this image has the entry; other slots are left over from earlier images. */
+/* What the test of an image works with. An entry is known by its parent's number and the low byte of its identifier: the high byte
+   follows from the parent. */
+struct rules {
+    u64 high[MOST_DIRECTORIES];   /* the high byte of a directory's files' identifiers, or NOWHERE */
+    u32 wanted[MOST_DIRECTORIES]; /* the high byte of its directories' identifiers, or 256 */
+#ifdef INDEX_KEPT
+    u32 nowhere;                  /* so many at the end of `high` are NOWHERE */
+    u32 stamp;                    /* a multiple of 256, another for each image */
+    u32 file_slot[MOST_DIRECTORIES * 256];
+    u32 directory_slot[MOST_DIRECTORIES * 256];
+#else
+    u64 file_mark[128], directory_mark[128];
+#endif
+};
+
+/* Where things are. With INDEX_KEPT also what the commands look up, written down by the test and kept between commands: a slot holds
+   `stamp` plus the entry's number where this image has the entry; other slots are left over from earlier images. */
 struct index {
     u32 directories, files;
     u32 entries, bytes;
-    u32 stamp;                       /* a multiple of 256, another for each image */
-    u32 nowhere;                     /* so many at the end of `high` are NOWHERE */
-    u32 children[MOST_DIRECTORIES];  /* directories below */
-    u32 elements[MOST_DIRECTORIES];  /* files below */
-    u32 start[MOST_FILES];           /* of a file's bytes */
-    u64 high[MOST_DIRECTORIES];      /* the high byte of its files' identifiers, or NOWHERE */
-    u32 wanted[MOST_DIRECTORIES];    /* the high byte of its directories' identifiers, or 256 */
-    u32 file_slot[MOST_DIRECTORIES * 256];
-    u32 directory_slot[MOST_DIRECTORIES * 256];
+#ifdef INDEX_KEPT
+    u32 children[MOST_DIRECTORIES]; /* directories below */
+    u32 elements[MOST_DIRECTORIES]; /* files below */
+    u32 start[MOST_FILES];          /* of a file's bytes */
+    struct rules r;
+#endif
 };
 
 /* No masked entry has this bit. */
@@ -72,68 +84,96 @@ HOT u32 bad_code(u32 head, u32 unused)
     return (head & (unused | 0xFF00FC00u)) | ((head & 0xFF0000) > 0xA0000);
 }
 
-/* Takes a slot; negative if it is taken. */
-HOT long take_slot(u32 *slot, u32 stamped)
+/* Takes the place of an entry at 256 * parent + low; negative if it is taken. */
+#ifdef INDEX_KEPT
+HOT long occupy(u32 *slot, u64 at, u32 stamped)
 {
-    long free = (long)(u64)(*slot ^ stamped) - 256;
-    *slot = stamped;
+    long free = (long)(u64)(slot[at] ^ stamped) - 256;
+    slot[at] = stamped;
     return free;
 }
+#define TAKE_FILE(at, n) occupy(x->r.file_slot, at, x->r.stamp + (n))
+#define TAKE_DIRECTORY(at, n) occupy(x->r.directory_slot, at, x->r.stamp + (n))
+#define NOTE(what) what
+#else
+HOT long occupy(u64 *mark, u64 at)
+{
+    u64 word = mark[at & 127], bit = 1ul << (at >> 7 & 63);
+    mark[at & 127] = word | bit;
+    return -(long)((word & bit) != 0);
+}
+#define TAKE_FILE(at, n) occupy(r->file_mark, at)
+#define TAKE_DIRECTORY(at, n) occupy(r->directory_mark, at)
+#define NOTE(what)
+#endif
 
 /* Rules are gathered, not left at the first: `bad` must stay 0, and `under` must not become negative. */
-HOT int bad_directories(const u8 *entry, u32 count, struct index *x)
+HOT int bad_directories(const u8 *entry, u32 count, struct index *x, struct rules *r)
 {
     u64 bad = (load8(entry) & 0xFF00000080FFFFFFul) ^ 0x3F;
     long under = 0;
-    x->wanted[0] = 0x7F;
-    x->high[0] = 0x2F;
-    x->children[0] = x->elements[0] = 0;
+    (void)x;
+    r->wanted[0] = 0x7F;
+    r->high[0] = 0x2F;
+    NOTE(x->children[0] = x->elements[0] = 0;)
     for (u32 i = 1; i < count; i++) {
         u64 e = load8(entry += 8);
-        u32 parent = e >> 16 & 31, wanted = x->wanted[parent];
+        u32 parent = e >> 16 & 31, wanted = r->wanted[parent];
         bad |= (e & 0xFF00000080E000FFul) ^ wanted;
         under |= (long)i - 1 - parent;
-        x->wanted[i] = wanted == 0x7F ? 0x5F : 256;
-        x->high[i] = wanted ^ 0x10;
-        x->children[i] = x->elements[i] = 0;
-        x->children[parent]++;
-        under |= take_slot(&x->directory_slot[e >> 8 & 0x1FFF], x->stamp + i);
+        r->wanted[i] = wanted == 0x7F ? 0x5F : 256;
+        r->high[i] = wanted ^ 0x10;
+        NOTE(x->children[i] = x->elements[i] = 0;)
+        NOTE(x->children[parent]++;)
+        under |= TAKE_DIRECTORY(e >> 8 & 0x1FFF, i);
     }
-    for (u32 i = count; i < MOST_DIRECTORIES - x->nowhere; i++) x->high[i] = NOWHERE;
-    x->nowhere = MOST_DIRECTORIES - count;
+#ifdef INDEX_KEPT
+    for (u32 i = count; i < MOST_DIRECTORIES - r->nowhere; i++) r->high[i] = NOWHERE;
+    r->nowhere = MOST_DIRECTORIES - count;
+#else
+    for (u32 i = count; i < MOST_DIRECTORIES; i++) r->high[i] = NOWHERE;
+#endif
     return (bad != 0) | (under < 0);
 }
 
-HOT int bad_files(const u8 *entry, u32 count, struct index *x, u32 *sum)
+HOT int bad_files(const u8 *entry, u32 count, struct index *x, struct rules *r, u32 *sum)
 {
     const u8 *end = entry + ENTRY * count;
     u64 bad = 0, begins = 0;
     long under = 0;
-    u32 *start = x->start, stamped = x->stamp;
+    (void)x;
+    NOTE(u32 *start = x->start;)
+    NOTE(u32 n = 0;)
     for (; entry != end; entry += ENTRY) {
         u64 e = load8(entry), at = e >> 8 & 0x1FFF;
         const struct shape *shape = &shapes[__builtin_bswap64(e) >> 24 & 0x3FF];
-        bad |= (e & shape->zeros) ^ x->high[at >> 8];
-        under |= take_slot(&x->file_slot[at], stamped++);
-        x->elements[at >> 8]++;
+        bad |= (e & shape->zeros) ^ r->high[at >> 8];
+        under |= TAKE_FILE(at, n++);
+        NOTE(x->elements[at >> 8]++;)
         u64 f = load8(entry + 6), turned = __builtin_bswap64(f), size = turned >> 16 & 0xFFFF;
         u64 product = size * shape->inverse;
         long many = (long)(product >> 32), top = turned >> 8 & 0xFF;
         bad |= f & shape->more_zeros;
         under |= (shape->rest - (long)(product & 0xFFFFFFFF)) | (shape->most - many) | (many - 1 - top);
-        *start++ = (u32)begins;
+        NOTE(*start++ = (u32)begins;)
         begins += size;
     }
     *sum = (u32)begins;
     return (bad != 0) | (under < 0);
 }
 
-static void next_stamp(struct index *x)
+/* Nothing is taken. */
+static inline void clear(struct rules *r)
 {
-    x->stamp += 256;
-    if (x->stamp != 0) return;
-    for (u32 i = 0; i < MOST_DIRECTORIES * 256; i++) x->file_slot[i] = x->directory_slot[i] = 0;
-    x->stamp = 256;
+#ifdef INDEX_KEPT
+    r->stamp += 256;
+    if (r->stamp != 0) return;
+    for (u32 i = 0; i < MOST_DIRECTORIES * 256; i++) r->file_slot[i] = r->directory_slot[i] = 0;
+    r->stamp = 256;
+#else
+    for (u32 i = 0; i < 128; i++) r->file_mark[i] = r->directory_mark[i] = 0;
+    for (u32 i = 0; i < MOST_DIRECTORIES; i++) r->wanted[i] = 256;
+#endif
 }
 
 /* Whether these bytes are an image; if so the index is filled. It stands in one page of code: under the emulator a loop that crosses into
@@ -151,8 +191,22 @@ static __attribute__((noinline, aligned(4096))) int is_image(const u8 *image, u3
     x->entries = entries;
     x->files = files;
     x->bytes = bytes;
-    next_stamp(x);
-    if (bad_directories(image + DIRECTORIES + 2, directories, x)) return 0;
-    if (bad_files(image + entries, files, x, &sum)) return 0;
+#ifdef INDEX_KEPT
+    struct rules *r = &x->r;
+#else
+    struct rules own, *r = &own;
+#endif
+    clear(r);
+    if (bad_directories(image + DIRECTORIES + 2, directories, x, r)) return 0;
+    if (bad_files(image + entries, files, x, r, &sum)) return 0;
     return sum <= MOST_BYTES && sum == number(image + bytes - 2) && bytes + sum == length;
+}
+
+/* The same where these bytes are known to be an image. */
+HOT void find_index(const u8 *image, struct index *x)
+{
+    x->directories = number(image + DIRECTORIES);
+    x->entries = DIRECTORIES + 2 + 8 * x->directories + 2;
+    x->files = number(image + x->entries - 2);
+    x->bytes = x->entries + ENTRY * x->files + 2;
 }
