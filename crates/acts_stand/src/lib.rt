@@ -9,7 +9,6 @@ ghost use mathlib.Core.Path.{_≡_};
 ghost use Prim.Native.Nat.{_+_, _*_, _<_, _≤_};
 ghost use lib.ListN.{length};
 ghost use Rattle.card.specs.Access.{rights};
-ghost use Rattle.card.specs.Bytes.{word};
 ghost use Rattle.card.specs.Layout.{start};
 ghost use Rattle.card.specs.declared.Current.the-variants.{File};
 ghost use Rattle.shelf.specs.Reads.{Indexed};
@@ -37,14 +36,6 @@ fn rights(l: &[u8], s: Session) -> Rights
     }
 }
 
-// Two bytes that are there.
-fn pair(l: &[u8], at: usize) -> usize
-    requires { ⌜ at + 2 ≤ length (now l) ⌝ }
-    ensures { λ r. ⌜ (r ≡ word (now (l .entry)) at) × (r < 65536) ⌝ }
-{
-    wide_word(entries::word(l, at))
-}
-
 // Where the bytes of file f start: after the bytes of the files before it.
 fn start(l: &[u8], i: Index, f: usize) -> usize
     requires { ⌜ Indexed (now l) i ⌝ }
@@ -55,7 +46,7 @@ fn start(l: &[u8], i: Index, f: usize) -> usize
     let mut sum: usize = 0;
     let mut g = 0;
     while g < f {
-        sum += pair(l, table + 14 * g + 10);
+        sum += wide_word(entries::word(l, table + 14 * g + 10));
         g += 1;
     }
     i.store + sum

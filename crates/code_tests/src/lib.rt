@@ -100,7 +100,7 @@ fn renew(e: &mut [u8], flags: u8, unblocks: u8, new: &[u8])
     put(e, 4, new);
 }
 
-// A code is tested: right, it is presented and its entry is renewed; wrong, its counter falls by one.
+// A code is tested: right, it is presented and its entry is renewed; wrong, its counter falls by one. Only this player's crates call it.
 pub fn tested(
     e: &mut [u8],
     s: Session,

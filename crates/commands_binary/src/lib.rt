@@ -37,6 +37,7 @@ fn binary(r: Rights, e: Entry, a: Act, at: usize, n: usize) -> u16
     0
 }
 
+// READ BINARY. Only this player's crates call it.
 pub fn read_binary(
     r: Rights,
     e: Entry,
@@ -62,6 +63,7 @@ pub fn read_binary(
     }
 }
 
+// UPDATE BINARY. Only this player's crates call it.
 pub fn update_binary(r: Rights, e: Entry, b: &mut [u8], s: Session, at: usize, new: &[u8]) -> Reply
     requires { ⌜ length (now b) ≡ e .size ⌝ }
     ensures { λ t. ⌜ Writes (updateBinary r e (now (b .entry)) s at (now (new .entry))) t (now (b .exit)) (e .top) ⌝ }

@@ -16,6 +16,7 @@ fn disabled(k: Code) -> bool
     k.flags % 2 == 1
 }
 
+// VERIFY. Only this player's crates call it.
 pub fn verify(e: &mut [u8], s: Session, c: usize, given: &[u8]) -> Reply
     requires { ⌜ Sized (now e) (now given) 8 ⌝ }
     ensures { λ t. ⌜ Codes (verify (now (e .entry)) s c (now (given .entry))) t (now (e .exit)) ⌝ }
@@ -25,7 +26,7 @@ pub fn verify(e: &mut [u8], s: Session, c: usize, given: &[u8]) -> Reply
     tested(e, s, c, Key::Chv, off, given, k.flags, k.unblocks, given)
 }
 
-// The second eight bytes become the code.
+// The second eight bytes become the code. Only this player's crates call it.
 pub fn change(e: &mut [u8], s: Session, c: usize, given: &[u8]) -> Reply
     requires { ⌜ Sized (now e) (now given) 16 ⌝ }
     ensures { λ t. ⌜ Codes (change (now (e .entry)) s c (now (given .entry))) t (now (e .exit)) ⌝ }
@@ -37,7 +38,7 @@ pub fn change(e: &mut [u8], s: Session, c: usize, given: &[u8]) -> Reply
     tested(e, s, c, Key::Chv, off, old, k.flags, k.unblocks, new)
 }
 
-// Flag b1 becomes 1.
+// Flag b1 becomes 1. Only this player's crates call it.
 pub fn disable(e: &mut [u8], s: Session, c: usize, given: &[u8]) -> Reply
     requires { ⌜ Sized (now e) (now given) 8 ⌝ }
     ensures { λ t. ⌜ Codes (disable (now (e .entry)) s c (now (given .entry))) t (now (e .exit)) ⌝ }
@@ -48,7 +49,7 @@ pub fn disable(e: &mut [u8], s: Session, c: usize, given: &[u8]) -> Reply
     tested(e, s, c, Key::Chv, off, given, flags, k.unblocks, given)
 }
 
-// Flag b1 becomes 0.
+// Flag b1 becomes 0. Only this player's crates call it.
 pub fn enable(e: &mut [u8], s: Session, c: usize, given: &[u8]) -> Reply
     requires { ⌜ Sized (now e) (now given) 8 ⌝ }
     ensures { λ t. ⌜ Codes (enable (now (e .entry)) s c (now (given .entry))) t (now (e .exit)) ⌝ }
@@ -59,7 +60,7 @@ pub fn enable(e: &mut [u8], s: Session, c: usize, given: &[u8]) -> Reply
     tested(e, s, c, Key::Chv, on, given, flags, k.unblocks, given)
 }
 
-// The unblock code is tested; flag b1 becomes 0, and the second eight bytes become the code.
+// The unblock code is tested; flag b1 becomes 0, and the second eight bytes become the code. Only this player's crates call it.
 pub fn unblock(e: &mut [u8], s: Session, c: usize, given: &[u8]) -> Reply
     requires { ⌜ Sized (now e) (now given) 16 ⌝ }
     ensures { λ t. ⌜ Codes (unblock (now (e .entry)) s c (now (given .entry))) t (now (e .exit)) ⌝ }

@@ -50,6 +50,7 @@ fn six(n: usize, added: &[u8]) -> [u8; 6]
     [d[0], d[1], d[2], added[0], added[1], added[2]]
 }
 
+// INCREASE. Only this player's crates call it.
 pub fn increase_by(r: Rights, e: Entry, b: &mut [u8], s: Session, added: &[u8]) -> Written
     requires { ⌜ Stands e (now b) (s .pointer) ⌝ }
     requires { ⌜ Counts e (now added) ⌝ }

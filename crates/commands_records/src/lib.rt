@@ -103,7 +103,7 @@ fn moved(mode: usize, k: usize, s: Session) -> Session
     points(Pointer::At(k), s)
 }
 
-// Where record k starts in the file's bytes.
+// Where record k starts in the file's bytes. Only this player's crates call it.
 pub fn record_at(e: Entry, k: usize) -> usize
     requires { ⌜ Recorded e ⌝ }
     requires { ⌜ (0 < k) × (k < 256) ⌝ }
@@ -133,6 +133,7 @@ fn of_record(r: Rights, e: Entry, a: Act, suits: bool, k: usize, n: usize) -> u1
     0
 }
 
+// READ RECORD. Only this player's crates call it.
 pub fn read_record(
     r: Rights,
     e: Entry,
@@ -170,7 +171,7 @@ fn updatable(mode: usize, e: Entry) -> bool
     (e.structure != 0) & ((e.structure != 3) | (mode == 3))
 }
 
-// A cyclic file's oldest record is overwritten and becomes record 1: the top afterwards.
+// A cyclic file's oldest record is overwritten and becomes record 1: the top afterwards. Only this player's crates call it.
 pub fn push(e: Entry, b: &mut [u8], new: &[u8]) -> u8
     requires { ⌜ Recorded e ⌝ }
     requires { ⌜ (length (now b) ≡ e .size) × (length (now new) ≡ e .width) ⌝ }
@@ -184,6 +185,7 @@ pub fn push(e: Entry, b: &mut [u8], new: &[u8]) -> u8
     top as u8
 }
 
+// UPDATE RECORD. Only this player's crates call it.
 pub fn update_record(
     r: Rights,
     e: Entry,

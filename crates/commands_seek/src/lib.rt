@@ -113,6 +113,7 @@ fn sought(b: &[u8], m: usize, n: usize, pattern: &[u8], mode: usize, p: Pointer)
     backward(b, m, pattern, k - 1)
 }
 
+// SEEK. Only this player's crates call it.
 pub fn seek_record(r: Rights, e: Entry, b: &[u8], s: Session, mode: usize, pattern: &[u8]) -> Reply
     requires { ⌜ Stands e (now b) (s .pointer) ⌝ }
     ensures { λ t. ⌜ Says (seekRecord r e (now (b .entry)) s mode (now (pattern .entry))) t ⌝ }

@@ -18,7 +18,7 @@ ghost use Rattle.card.specs.Select.{directoryResponse, firstPointer, select, te
 ghost use Rattle.commands.specs.Gives.{Gives, Says};
 ghost use Rattle.commands_select.specs.Finds.{Leads, Names, Misses};
 
-// What waits is told, as many bytes as are asked; 67 leaves it.
+// What waits is told, as many bytes as are asked; 67 leaves it. Only this player's crates call it.
 pub fn get_response(s: Session, n: usize, room: &mut [u8]) -> Reply
     requires { ⌜ (s .count ≤ 22) × (22 ≤ length (now room)) ⌝ }
     ensures { λ t. ⌜ Gives (getResponse s n) t (now (room .entry)) (now (room .exit)) ⌝ }
@@ -39,7 +39,7 @@ pub fn get_response(s: Session, n: usize, room: &mut [u8]) -> Reply
     }
 }
 
-// The first bytes on the current directory.
+// The first bytes on the current directory. Only this player's crates call it.
 pub fn tell_status(told: [u8; 22], s: Session, n: usize, room: &mut [u8]) -> Reply
     requires { ⌜ (n ≤ 22) × (22 ≤ length (now room)) ⌝ }
     ensures { λ t. ⌜ ((h : List ℕ) → told ≡ directoryResponse h (s .directory)

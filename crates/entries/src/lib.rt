@@ -15,7 +15,7 @@ fn join(high: u8, low: u8) -> u16
     (high as u16) * 256 + (low as u16)
 }
 
-// The two bytes at a place.
+// The two bytes at a place. Only this player's crates call it.
 pub fn word(l: &[u8], at: usize) -> u16
     requires { ⌜ at + 2 ≤ length (now l) ⌝ }
     ensures { λ r. ⌜ r ≡ word (now (l .entry)) at ⌝ }
@@ -23,7 +23,7 @@ pub fn word(l: &[u8], at: usize) -> u16
     join(l[at], l[at + 1])
 }
 
-// The code's entry at a place, but for the two codes themselves.
+// The code's entry at a place, but for the two codes themselves. Only this player's crates call it.
 pub fn code(l: &[u8], at: usize) -> Code
     requires { ⌜ at + 4 ≤ length (now l) ⌝ }
     ensures { λ r. ⌜ r ≡ codeEntry (now (l .entry)) at ⌝ }
@@ -36,7 +36,7 @@ pub fn code(l: &[u8], at: usize) -> Code
     }
 }
 
-// The directory's entry at a place.
+// The directory's entry at a place. Only this player's crates call it.
 pub fn directory(l: &[u8], at: usize) -> Directory
     requires { ⌜ at + 8 ≤ length (now l) ⌝ }
     ensures { λ r. ⌜ r ≡ directoryEntry (now (l .entry)) at ⌝ }
@@ -51,7 +51,7 @@ pub fn directory(l: &[u8], at: usize) -> Directory
     }
 }
 
-// The file's entry at a place.
+// The file's entry at a place. Only this player's crates call it.
 pub fn file(l: &[u8], at: usize) -> Entry
     requires { ⌜ at + 14 ≤ length (now l) ⌝ }
     ensures { λ r. ⌜ r ≡ fileEntry (now (l .entry)) at ⌝ }

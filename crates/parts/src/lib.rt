@@ -26,7 +26,7 @@ pub fn low(b: u8) -> u16
     b as u16
 }
 
-// The first bytes of the room become n bytes of a file.
+// The first bytes of the room become n bytes of a file. Only this player's crates call it.
 pub fn lay(b: &[u8], at: usize, n: usize, room: &mut [u8])
     requires { ⌜ (at + n ≤ length (now b)) × (n ≤ length (now room)) ⌝ }
     ensures { λ _. ⌜ now (room .exit) ≡ laid (now (room .entry)) (part (now (b .entry)) at n) ⌝ }
@@ -35,7 +35,7 @@ pub fn lay(b: &[u8], at: usize, n: usize, room: &mut [u8])
     bytes::copy(&b[at..end], room);
 }
 
-// The bytes from a place on become others.
+// The bytes from a place on become others. Only this player's crates call it.
 pub fn put(b: &mut [u8], at: usize, new: &[u8])
     requires { ⌜ at + length (now new) ≤ length (now b) ⌝ }
     ensures { λ _. ⌜ now (b .exit) ≡ splice (now (b .entry)) at (length (now (new .entry))) (now (new .entry)) ⌝ }
@@ -44,7 +44,7 @@ pub fn put(b: &mut [u8], at: usize, new: &[u8])
     bytes::copy(new, &mut b[at..end]);
 }
 
-// Whether the bytes from a place on are these.
+// Whether the bytes from a place on are these. Only this player's crates call it.
 pub fn alike(b: &[u8], at: usize, these: &[u8]) -> bool
     requires { ⌜ at + length (now these) ≤ length (now b) ⌝ }
     ensures { λ r. ⌜ r ≡ same (part (now (b .entry)) at (length (now (these .entry)))) (now (these .entry)) ⌝ }

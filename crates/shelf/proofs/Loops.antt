@@ -1,12 +1,12 @@
--- Laws of the loops over the numbers below n: whether all pass a test, or none, how many do, and which is the first.
+-- Laws of the loops over the numbers below n: whether all pass a test, how many do, and which is the first.
 use Prim.Native.Nat.{ℕ, zero, suc, _+_, _-_, _<_, _≤_}
 use mathlib.Core.Path.{_≡_, refl, sym, ap, _∙_}
-use mathlib.Core.Bool.{Bool, true, false, _&&_, not, and-false}
+use mathlib.Core.Bool.{Bool, true, false, _&&_, and-false}
 use mathlib.Core.Logic.{⊎-elim}
 use native.Mathlib.Omega.{arith}
 use native.Mathlib.Nat.{eq-or-lt-of-le}
 use native.Mathlib.Numerals.{add-one}
-use Rattle.card.specs.Bytes.{every, none, bit, howMany, firstFrom}
+use Rattle.card.specs.Bytes.{every, bit, howMany, firstFrom}
 
 module _ (p : ℕ → Bool) where
   pub every-none : every 0 p ≡ true
@@ -29,23 +29,6 @@ module _ (p : ℕ → Bool) where
   every-not zero i lt h = let z : ⊥ = omega arith in absurd z
   every-not (suc n) i lt h =
       ⊎-elim (λ e. last-fails n i e h) (λ a. rw (← every-not n i a h)) (eq-or-lt-of-le {n = i} {m = n} (omega arith))
-
-module _ (p : ℕ → Bool) where
-  pub none-none : none 0 p ≡ true
-  unfolding none every
-  none-none = refl
-
-  pub none-more : (i : ℕ) → none i p ≡ true → p i ≡ false → none (i + 1) p ≡ true
-  unfolding none
-  none-more i h t = every-more (λ k. not (p k)) i h (ap not t)
-
-  pub none-end : (n i : ℕ) → i ≤ n → n ≤ i → none i p ≡ true → true ≡ none n p
-  unfolding none
-  none-end = every-end (λ k. not (p k))
-
-  pub none-not : (n i : ℕ) → i < n → p i ≡ true → false ≡ none n p
-  unfolding none
-  none-not n i lt h = every-not (λ k. not (p k)) n i lt (ap not h)
 
 module _ (p : ℕ → Bool) where
   pub count-none : 0 ≡ howMany 0 p

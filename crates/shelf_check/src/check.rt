@@ -26,6 +26,7 @@ pub fn whole(image: &[u8], i: Index) -> bool
         & (i.store <= image.len())
 }
 
+// Both codes. They stand at a fixed place; the index is there for what it tells of the length.
 pub fn codes_sound(image: &[u8], i: Index) -> bool
     requires { ⌜ Whole (now image) i ⌝ }
     ensures { λ r. ⌜ r ≡ codesSound (now (image .entry)) ⌝ }

@@ -29,7 +29,7 @@ fn named(head: &[u8], i: Index, here: usize, id: u16, f: usize) -> bool
     (home == here) & (read::file_identifier(head, i, f) == id)
 }
 
-// The number of the directory that an identifier selects, or the count of directories. Called by this player's crates only.
+// The number of the directory that an identifier selects, or the count of directories. Only this player's crates call it.
 pub fn find_directory(head: &[u8], i: Index, here: usize, id: u16) -> usize
     requires { ⌜ Head (now head) i ⌝ }
     requires { ⌜ here < i .directories ⌝ }
@@ -48,7 +48,7 @@ pub fn find_directory(head: &[u8], i: Index, here: usize, id: u16) -> usize
     n
 }
 
-// The number of the file that an identifier selects, or the count of files. Called by this player's crates only.
+// The number of the file that an identifier selects, or the count of files. Only this player's crates call it.
 pub fn find_file(head: &[u8], i: Index, here: usize, id: u16) -> usize
     requires { ⌜ Head (now head) i ⌝ }
     ensures { λ r. ⌜ r ≡ findFile (now (head .entry)) here id ⌝ }

@@ -134,7 +134,7 @@ fn directory_type(d: usize) -> u8
     if d == 0 { 1 } else { 2 }
 }
 
-// The 22 bytes on a directory. Called by this player's crates only, with the head of an image.
+// The 22 bytes on a directory. Only this player's crates call it, with the head of an image.
 pub fn directory_response(head: &[u8], i: Index, d: usize) -> [u8; 22]
     requires { ⌜ Head (now head) i ⌝ }
     requires { ⌜ d < i .directories ⌝ }

@@ -9,7 +9,7 @@ fn glyph(half: u8) -> u8 {
     if h < 10 { b'0' + h } else { b'A' + (h - 10) }
 }
 
-// One byte more at a place of the text, and the next place; a full text stays as it is.
+// One byte more at a place of the text, and the next place; a full text stays as it is. Only this project's programs call it.
 pub fn push(text: &mut [u8], at: usize, b: u8) -> usize
     requires { ⌜ at ≤ length (now text) ⌝ }
     ensures { λ r. ⌜ r ≤ length (now (text .entry)) ⌝ }
@@ -21,7 +21,7 @@ pub fn push(text: &mut [u8], at: usize, b: u8) -> usize
     at
 }
 
-// The bytes in hexadecimal, `-` where there are none.
+// The bytes in hexadecimal, `-` where there are none. Only this project's programs call it.
 pub fn push_hex(text: &mut [u8], from: usize, bytes: &[u8]) -> usize
     requires { ⌜ from ≤ length (now text) ⌝ }
     ensures { λ r. ⌜ r ≤ length (now (text .entry)) ⌝ }
@@ -40,7 +40,7 @@ pub fn push_hex(text: &mut [u8], from: usize, bytes: &[u8]) -> usize
     at
 }
 
-// These bytes as they are.
+// These bytes as they are. Only this project's programs call it.
 pub fn push_all(text: &mut [u8], from: usize, bytes: &[u8]) -> usize
     requires { ⌜ from ≤ length (now text) ⌝ }
     ensures { λ r. ⌜ r ≤ length (now (text .entry)) ⌝ }
@@ -54,7 +54,7 @@ pub fn push_all(text: &mut [u8], from: usize, bytes: &[u8]) -> usize
     at
 }
 
-// A number in decimal.
+// A number in decimal. Only this project's programs call it.
 pub fn push_number(text: &mut [u8], from: usize, n: usize) -> usize
     requires { ⌜ from ≤ length (now text) ⌝ }
     ensures { λ r. ⌜ r ≤ length (now (text .entry)) ⌝ }

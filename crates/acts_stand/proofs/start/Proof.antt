@@ -1,7 +1,8 @@
 -- `acts_stand::start` meets its contract. The invariant: the sum is that of the first g sizes.
 use Prim.Native.Nat.{_-_, _*_, _≤_}
-use mathlib.Core.Path.{_≡_}
+use mathlib.Core.Path.{_≡_, _∙_}
 use native.Mathlib.Omega.{arith}
+use borrow.Author.Needs.{needs}
 use Rattle.card.specs.Layout.{sizes}
 use Rattle.acts_stand.proofs.Standing.{no-sizes, next-size, all-sizes}
 use Rattle.acts_stand.proofs.start.Statement.{statement}
@@ -16,17 +17,20 @@ abbrev μ-loop : tie.MeasureT-loop
 loop-holds : tie.Need-loop-holds Inv-loop μ-loop
 loop-holds c = (no-sizes _, omega arith)
 
-mul-pair : tie.Need-mul-pair Inv-loop μ-loop
-mul-pair c = omega arith
+mul-word : tie.Need-mul-word Inv-loop μ-loop
+mul-word c = omega arith
 
-add-pair : tie.Need-add-pair Inv-loop μ-loop
-add-pair c = omega arith
+add-word : tie.Need-add-word Inv-loop μ-loop
+add-word c = omega arith
 
-add-pair-2 : tie.Need-add-pair-2 Inv-loop μ-loop
-add-pair-2 c = omega arith
+add-word-2 : tie.Need-add-word-2 Inv-loop μ-loop
+add-word-2 c = omega arith
 
-pair-requires : tie.Need-pair-requires Inv-loop μ-loop
-pair-requires c κs = omega arith
+word-requires : tie.Need-word-requires Inv-loop μ-loop
+word-requires c κs = omega arith
+
+wide-word-requires : tie.Need-wide-word-requires Inv-loop μ-loop
+wide-word-requires c κs = search needs
 
 add-sum : tie.Need-add-sum Inv-loop μ-loop
 add-sum c = omega arith
@@ -39,8 +43,8 @@ loop-less c = omega arith
 
 loop-again : tie.Need-loop-again Inv-loop μ-loop
 loop-again c =
-    let known = c .before .before .before .before .pre .0 .is in
-    (next-size _ _ known _ _ _ (c .before .before .loop .inv .0) (c .pair .ensures .0), omega arith)
+    let known = c .before .before .before .before .before .pre .0 .is in
+    (next-size _ _ known _ _ _ (c .before .before .before .loop .inv .0) (c .wide-word .ensures .0 ∙ c .before .word .ensures), omega arith)
 
 add-result : tie.Need-add-result Inv-loop μ-loop
 add-result c = omega arith
@@ -57,10 +61,11 @@ start-spec =
     Inv-loop
     μ-loop
     loop-holds
-    mul-pair
-    add-pair
-    add-pair-2
-    pair-requires
+    mul-word
+    add-word
+    add-word-2
+    word-requires
+    wide-word-requires
     add-sum
     add-g
     loop-less

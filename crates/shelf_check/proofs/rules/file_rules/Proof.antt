@@ -1,5 +1,6 @@
 -- `shelf_check::rules::file_rules` meets its contract: a law for each way out.
-use Rattle.shelf_check.proofs.OneEntry.{no-home, other-start, no-records, no-structure, is-transparent, is-linear, is-cyclic, own-file}
+use mathlib.Core.Path.{refl}
+use Rattle.shelf_check.proofs.OneEntry.{no-home, other-start, no-records, no-structure, structured, own-file}
 use borrow.Author.Needs.{needs}
 use Rattle.shelf_check.proofs.rules.file_rules.Statement.{statement}
 use Rattle.shelf_check.proofs.rules.file_rules.Tie as tie
@@ -23,7 +24,7 @@ transparent-rules-requires : tie.Need-transparent-rules-requires
 transparent-rules-requires c κs = search needs
 
 returns-3 : tie.Need-returns-3
-returns-3 c = own-file _ _ (c .before .before .before .before .before .before .before .before .before .before .before .pre .indexed .is) _ _ _ _ (c .before .before .before .before .before .before .before .if1 .left) (c .before .before .before .before .before .first-byte .ensures) (c .before .before .before .before .within .ensures) (c .before .before .before .if2 .left) (is-transparent _ (c .before .if3 .taken)) (c .transparent-rules .ensures)
+returns-3 c = own-file _ _ (c .before .before .before .before .before .before .before .before .before .before .before .pre .indexed .is) _ _ _ _ (c .before .before .before .before .before .before .before .if1 .left) (c .before .before .before .before .before .first-byte .ensures) (c .before .before .before .before .within .ensures) (c .before .before .before .if2 .left) (structured _ 0 (c .before .if3 .taken) refl) (c .transparent-rules .ensures)
 
 returns-4 : tie.Need-returns-4
 returns-4 c = no-records _ _ (c .before .before .before .before .before .before .before .before .before .before .before .before .pre .indexed .is) _ (c .before .before .if3 .left) (c .if4 .taken)
@@ -32,13 +33,13 @@ linear-rules-requires : tie.Need-linear-rules-requires
 linear-rules-requires c κs = search needs
 
 returns-5 : tie.Need-returns-5
-returns-5 c = own-file _ _ (c .before .before .before .before .before .before .before .before .before .before .before .before .before .before .before .pre .indexed .is) _ _ _ _ (c .before .before .before .before .before .before .before .before .before .before .before .if1 .left) (c .before .before .before .before .before .before .before .before .before .first-byte .ensures) (c .before .before .before .before .before .before .before .before .within .ensures) (c .before .before .before .before .before .before .before .if2 .left) (is-linear _ (c .before .if5 .taken)) (c .linear-rules .ensures)
+returns-5 c = own-file _ _ (c .before .before .before .before .before .before .before .before .before .before .before .before .before .before .before .pre .indexed .is) _ _ _ _ (c .before .before .before .before .before .before .before .before .before .before .before .if1 .left) (c .before .before .before .before .before .before .before .before .before .first-byte .ensures) (c .before .before .before .before .before .before .before .before .within .ensures) (c .before .before .before .before .before .before .before .if2 .left) (structured _ 1 (c .before .if5 .taken) refl) (c .linear-rules .ensures)
 
 cyclic-rules-requires : tie.Need-cyclic-rules-requires
 cyclic-rules-requires c κs = search needs
 
 returns-6 : tie.Need-returns-6
-returns-6 c = own-file _ _ (c .before .before .before .before .before .before .before .before .before .before .before .before .before .before .before .before .before .pre .indexed .is) _ _ _ _ (c .before .before .before .before .before .before .before .before .before .before .before .before .before .if1 .left) (c .before .before .before .before .before .before .before .before .before .before .before .first-byte .ensures) (c .before .before .before .before .before .before .before .before .before .before .within .ensures) (c .before .before .before .before .before .before .before .before .before .if2 .left) (is-cyclic _ (c .before .if6 .taken)) (c .cyclic-rules .ensures)
+returns-6 c = own-file _ _ (c .before .before .before .before .before .before .before .before .before .before .before .before .before .before .before .before .before .pre .indexed .is) _ _ _ _ (c .before .before .before .before .before .before .before .before .before .before .before .before .before .if1 .left) (c .before .before .before .before .before .before .before .before .before .before .before .first-byte .ensures) (c .before .before .before .before .before .before .before .before .before .before .within .ensures) (c .before .before .before .before .before .before .before .before .before .if2 .left) (structured _ 3 (c .before .if6 .taken) refl) (c .cyclic-rules .ensures)
 
 returns-7 : tie.Need-returns-7
 returns-7 c = no-structure _ _ (c .before .before .before .before .before .before .before .before .before .before .before .before .before .before .before .before .pre .indexed .is) _ (c .before .before .before .before .before .before .if3 .left) (c .before .before .if5 .left) (c .if6 .left)
