@@ -1,24 +1,24 @@
 -- The ways out of `perform` and `play`, as the tests of the code find them.
 use Prim.Native.Nat.{ℕ, _-_, _≤_, _<_}
-use mathlib.Core.Path.{_≡_, sym, ap, subst, _∙_}
+use mathlib.Core.Path.{_≡_, refl, sym, ap, subst, _∙_}
 use mathlib.Core.List.{List, []}
-use mathlib.Core.Bool.{Bool, true, false, not, false≢true, true≢false}
-use lib.ListN.{length, take, drop, length-drop}
+use mathlib.Core.Bool.{Bool, true, false}
+use lib.ListN.{length, drop, length-drop}
 use borrow.Author.Tests.{eq-eqb, ne-eqb, lt-ltb, le-ltb}
 use Rattle.card.specs.Answers.{first, reply, refusal}
 use Rattle.card.specs.Bytes.{byte}
 use Rattle.card.specs.Forms.{formed, sent, instructionOf}
-use Rattle.card.specs.Layout.{index, head}
+use Rattle.card.specs.Layout.{head}
 use Rattle.card.specs.Play.{Outcome, act, opened, told, done, declined, performAs, perform, play}
 use Rattle.card.specs.Sessions.{fits}
 use Rattle.card.specs.Shelf.{isImage}
-use Rattle.card.specs.declared.Answer.the-variants.{NotAnImage, DoesNotFit, RoomTooSmall, WrongLength}
-use Rattle.card.specs.declared.Index.{Index}
+use Rattle.card.specs.declared.Answer.{Answer}
+use Rattle.card.specs.declared.Answer.the-variants.{Played as Done, NotAnImage, DoesNotFit, RoomTooSmall, WrongLength}
 use Rattle.card.specs.declared.Instruction.{Instruction}
 use Rattle.card.specs.declared.Session.{Session}
-use Rattle.card.proofs.Images.{image}
 use Rattle.acts.specs.Ready.{Ready}
-use Rattle.card.proofs.Places.{store-inside}
+use Rattle.shelf_check.specs.Examined.{answerOf, examined}
+use Rattle.shelf_check.proofs.Examining.{both-hold}
 use Rattle.player.specs.declared.Played.{Played}
 use Rattle.player.specs.Ends.{Ends}
 
@@ -50,23 +50,18 @@ pub byName : (l : List ℕ) (s : Session) (c : List ℕ) (i : Instruction) → i
 unfolding perform
 byName l s c i e = ap (λ (x : Instruction). performAs x l s c) e
 
--- the test of a negated answer
-pub truly : (b : Bool) {x : Bool} → b ≡ x → not b ≡ false → x ≡ true
-truly true e h = sym e
-truly false e h = absurd (true≢false h)
-
-pub falsely : (b : Bool) {x : Bool} → b ≡ x → not b ≡ true → x ≡ false
-falsely true e h = absurd (false≢true h)
-falsely false e h = sym e
-
 module _ (l : List ℕ) (s : Session) (c : List ℕ) (n : ℕ) where
-  pub noImage : isImage l ≡ false → declined NotAnImage l s ≡ play l s c n
-  unfolding play
-  noImage e = simp (play, e)
-
-  pub noFit : isImage l ≡ true → fits (head l) s ≡ false → declined DoesNotFit l s ≡ play l s c n
-  unfolding play
-  noFit e f = simp (play, e, f)
+  -- an examination that finds a fault has play's answer
+  pub stopped : (a : Answer) → a ≡ examined l s → (a ≡ Done → ⊥) → declined a l s ≡ play l s c n
+  unfolding examined play
+  stopped a e other = ap (λ (x : Answer). declined x l s) e ∙ go (isImage l) (fits (head l) s) _ (λ k. other (e ∙ k))
+    where
+      go : (b f : Bool) (o : Outcome) → (answerOf b f ≡ Done → ⊥)
+          → declined (answerOf b f) l s
+          ≡ elim b [ false ↦ declined NotAnImage l s | true ↦ elim f [ false ↦ declined DoesNotFit l s | true ↦ o ] ]
+      go true true o k = absurd (k refl)
+      go true false o k = refl
+      go false f o k = refl
 
   module _ (r : Ready l s) where
     pub noRoom : n < 258 → declined RoomTooSmall l s ≡ play l s c n
@@ -81,11 +76,6 @@ module _ (l : List ℕ) (s : Session) (c : List ℕ) (n : ℕ) where
     unfolding play
     onward h k = simp (play, r .image, r .session, le-ltb _ _ h, le-ltb _ _ k)
 
--- the head is the part before the store that the index tells
-module _ (l : List ℕ) (x : Index) (e : x ≡ index l) where
-  pub inside : isImage l ≡ true → x .store ≤ length l
-  inside h = subst (λ (y : Index). y .store ≤ length l) (sym e) (store-inside l (image l h))
-
-  pub byHead : (s : Session) (b : Bool) → b ≡ fits (take (x .store) l) s → b ≡ fits (head l) s
-  unfolding head
-  byHead s b f = f ∙ ap (λ (y : Index). fits (take (y .store) l) s) e
+-- one that finds none says what a command asks
+pub ready : {l : List ℕ} {s : Session} {a : Answer} → a ≡ examined l s → a ≡ Done → Ready l s
+ready {l} {s} e d = let h = both-hold l s (sym d ∙ e) in record { image = h .0; session = h .1 }

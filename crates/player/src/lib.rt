@@ -4,9 +4,7 @@ mod perform;
 use card::Answer;
 use card::Session;
 use perform::decline;
-use shelf::read::index;
-use shelf_check::is_image;
-use shelf_check::session_fits;
+use shelf_check::examine;
 ghost use lib.ListN.{length};
 ghost use Rattle.acts.specs.Ready.{Ready};
 ghost use Rattle.card.specs.Play.{play};
@@ -46,14 +44,11 @@ pub fn play(image: &mut [u8], session: Session, command: &[u8], room: &mut [u8])
     ensures { λ r. ⌜ Ends (play (now (image .entry)) session (now (command .entry)) (length (now (room .entry))))
         r (now (image .exit)) (now (room .entry)) (now (room .exit)) ⌝ }
 {
-    if !is_image(image) {
-        return decline(Answer::NotAnImage, session);
+    let answer = examine(image, session);
+    match answer {
+        Answer::Played => play_ready(image, session, command, room),
+        _ => decline(answer, session),
     }
-    let store = index(image).store;
-    if !session_fits(&image[..store], session) {
-        return decline(Answer::DoesNotFit, session);
-    }
-    play_ready(image, session, command, room)
 }
 
 // Plays a command as `play` does, on a session that is lent.

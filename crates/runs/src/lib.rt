@@ -5,9 +5,7 @@ use card::Current;
 use card::Pointer;
 use card::Session;
 use player::Played;
-use shelf::read::index;
-use shelf_check::is_image;
-use shelf_check::session_fits;
+use shelf_check::examine;
 ghost use mathlib.Core.Path.{_≡_};
 ghost use mathlib.Core.Bool.{true, _&&_};
 ghost use lib.ListN.{length};
@@ -53,11 +51,11 @@ pub fn tested(image: &[u8], session: Session) -> bool
     ensures { λ r. ⌜ r ≡ (isImage (now (image .entry)) && fits (head (now (image .entry))) session) ⌝ }
     ensures { λ r. ⌜ (r ≡ true → Ready (now (image .entry)) session) ⌝ }
 {
-    if !is_image(image) {
-        return false;
+    let answer = examine(image, session);
+    match answer {
+        Answer::Played => true,
+        _ => false,
     }
-    let store = index(image).store;
-    session_fits(&image[..store], session)
 }
 
 // Plays a command as `play` does; where image and session are known to be tested, it does not test them again, and they are so again

@@ -5,4 +5,5 @@ pub mod Directories
 pub mod Files
 pub mod Sections
 pub mod Fitting
+pub mod Examining
 pub mod Outcome

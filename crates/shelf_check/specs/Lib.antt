@@ -2,3 +2,4 @@ pub mod Marks
 pub mod Apart
 pub mod Tallies
 pub mod Whole
+pub mod Examined

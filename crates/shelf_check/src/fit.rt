@@ -1,12 +1,12 @@
-// Whether a session fits an image.
+// Whether a session fits an image, by the image's head.
 ghost use mathlib.Core.Path.{_≡_};
-ghost use Rattle.card.specs.Sessions.{pointed, stands, padded};
-ghost use Rattle.shelf.specs.Reads.{Indexed};
+ghost use Rattle.card.specs.Sessions.{pointed, stands, padded, fits};
+ghost use Rattle.shelf.specs.Reads.{Head};
 use card::Current;
 use card::Entry;
 use card::Index;
 use card::Pointer;
-use shelf::read;
+use card::Session;
 
 // A pointer stands only on a file with records and within them.
 fn pointed(e: Entry, p: Pointer) -> bool
@@ -22,8 +22,8 @@ fn pointed(e: Entry, p: Pointer) -> bool
 }
 
 // The current file lies in the current directory.
-pub fn stands(head: &[u8], i: Index, d: usize, c: Current, p: Pointer) -> bool
-    requires { ⌜ Indexed (now head) i ⌝ }
+fn stands(head: &[u8], i: Index, d: usize, c: Current, p: Pointer) -> bool
+    requires { ⌜ Head (now head) i ⌝ }
     ensures { λ r. ⌜ r ≡ stands (now (head .entry)) d c p ⌝ }
 {
     match c {
@@ -33,7 +33,7 @@ pub fn stands(head: &[u8], i: Index, d: usize, c: Current, p: Pointer) -> bool
         },
         Current::File(f) => {
             if f < i.files {
-                let e = read::file(head, i, f);
+                let e = entries::file(head, i.table + 14 * f);
                 ((e.home as usize) == d) & pointed(e, p)
             } else {
                 false
@@ -71,7 +71,7 @@ fn blank(waiting: [u8; 22]) -> bool
 }
 
 // At most 22 bytes wait, and the rest is zero.
-pub fn padded(waiting: [u8; 22], count: usize) -> bool
+fn padded(waiting: [u8; 22], count: usize) -> bool
     ensures { λ r. ⌜ r ≡ padded waiting count ⌝ }
 {
     if count == 0 {
@@ -88,4 +88,19 @@ pub fn padded(waiting: [u8; 22], count: usize) -> bool
         k += 1;
     }
     true
+}
+
+// The directory exists, the current file lies in it, and what waits is padded.
+pub fn fits(head: &[u8], i: Index, s: Session) -> bool
+    requires { ⌜ Head (now head) i ⌝ }
+    ensures { λ r. ⌜ r ≡ fits (now (head .entry)) s ⌝ }
+{
+    let directory = s.directory;
+    let current = s.current;
+    let pointer = s.pointer;
+    let waiting = s.waiting;
+    let count = s.count;
+    (directory < i.directories)
+        & stands(head, i, directory, current, pointer)
+        & padded(waiting, count)
 }

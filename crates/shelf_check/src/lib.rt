@@ -5,16 +5,19 @@ mod marks;
 mod rules;
 
 ghost use mathlib.Core.Path.{_≡_};
-ghost use Rattle.card.specs.Sessions.{fits};
 ghost use Rattle.card.specs.Shelf.{isImage};
+ghost use Rattle.shelf.specs.Reads.{Indexed};
+ghost use Rattle.shelf_check.specs.Examined.{examined};
+use card::Answer;
+use card::Index;
 use card::Session;
 use shelf::read;
 
-// Whether some bytes are an image, whatever bytes they are.
-pub fn is_image(image: &[u8]) -> bool
+// Section by section. The entries are looked at only where the counts and the length are an image's.
+fn sound(image: &[u8], i: Index) -> bool
+    requires { ⌜ Indexed (now image) i ⌝ }
     ensures { λ r. ⌜ r ≡ isImage (now (image .entry)) ⌝ }
 {
-    let i = read::index(image);
     if !check::whole(image, i) {
         return false;
     }
@@ -27,17 +30,25 @@ pub fn is_image(image: &[u8]) -> bool
     check::files_sound(image, i)
 }
 
-// Whether a session fits the image with this head.
-pub fn session_fits(head: &[u8], s: Session) -> bool
-    ensures { λ r. ⌜ r ≡ fits (now (head .entry)) s ⌝ }
+// Whether some bytes are an image, whatever bytes they are.
+pub fn is_image(image: &[u8]) -> bool
+    ensures { λ r. ⌜ r ≡ isImage (now (image .entry)) ⌝ }
 {
-    let i = read::index(head);
-    let directory = s.directory;
-    let current = s.current;
-    let pointer = s.pointer;
-    let waiting = s.waiting;
-    let count = s.count;
-    (directory < i.directories)
-        & fit::stands(head, i, directory, current, pointer)
-        & fit::padded(waiting, count)
+    sound(image, read::index(image))
+}
+
+// The host's answer before a command is looked at: whether the bytes are an image, and whether the session fits it. `Played` says that
+// nothing is in the way so far.
+pub fn examine(image: &[u8], session: Session) -> Answer
+    ensures { λ r. ⌜ r ≡ examined (now (image .entry)) session ⌝ }
+{
+    let i = read::index(image);
+    if !sound(image, i) {
+        return Answer::NotAnImage;
+    }
+    let store = i.store;
+    if !fit::fits(&image[..store], i, session) {
+        return Answer::DoesNotFit;
+    }
+    Answer::Played
 }

@@ -1,12 +1,9 @@
--- `shelf_check::is_image` meets its contract: a law for each way out.
+-- `shelf_check::sound` meets its contract: a law for each way out.
 use borrow.Author.Tests.{not-true, not-false}
 use Rattle.shelf_check.proofs.Sections.{fails, holds, no-codes, no-directories, image-if}
 use borrow.Author.Needs.{needs}
-use Rattle.shelf_check.proofs.is_image.Statement.{statement}
-use Rattle.shelf_check.proofs.is_image.Tie as tie
-
-index-requires : tie.Need-index-requires
-index-requires c κs = search needs
+use Rattle.shelf_check.proofs.sound.Statement.{statement}
+use Rattle.shelf_check.proofs.sound.Tie as tie
 
 whole-requires : tie.Need-whole-requires
 whole-requires c κs = search needs
@@ -32,11 +29,10 @@ files-sound-requires c κs = c .before .before .before .before .before .whole .e
 returns-4 : tie.Need-returns-4
 returns-4 c = image-if _ _ (holds (c .before .before .before .before .codes-sound .ensures) (c .before .before .before .if2 .left)) (holds (c .before .before .directories-sound .ensures) (c .before .if3 .left)) (c .files-sound .ensures)
 
-pub is-image-spec : {M : Type 1} → statement M
-is-image-spec =
+pub sound-spec : {M : Type 1} → statement M
+sound-spec =
     tie.close
     (tie.spec
-    index-requires
     whole-requires
     returns
     codes-sound-requires

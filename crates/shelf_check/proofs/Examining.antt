@@ -1,0 +1,51 @@
+-- Laws of an examination: its ways out, and what its answer says.
+use Prim.Native.Nat.{ℕ}
+use mathlib.Core.Path.{_≡_, refl, ap, subst, _∙_}
+use mathlib.Core.List.{List, [], _∷_}
+use mathlib.Core.Bool.{Bool, true, false}
+use native.Mathlib.Omega.{arith}
+use lib.ListN.{take}
+use types.Run.{OneOf, miss}
+use denote.Enum.Declared.{tagOf}
+use Rattle.card.specs.Answers.{number}
+use Rattle.card.specs.Layout.{index, head}
+use Rattle.card.specs.Sessions.{fits}
+use Rattle.card.specs.Shelf.{isImage}
+use Rattle.card.specs.declared.Answer.{Answer}
+use Rattle.card.specs.declared.Answer.the-variants.{Played, NotAnImage, DoesNotFit}
+use Rattle.card.specs.declared.Index.{Index}
+use Rattle.card.specs.declared.Session.{Session}
+use Rattle.card.proofs.Answer.{the-type}
+use Rattle.shelf_check.specs.Examined.{answerOf, examined}
+
+module _ (l : List ℕ) (s : Session) where
+  -- the head is the part before the store that the index tells
+  pub by-head : (i : Index) → i ≡ index l → {r : Bool} → r ≡ fits (take (i .store) l) s → r ≡ fits (head l) s
+  unfolding head
+  by-head i is e = e ∙ ap (λ (x : Index). fits (take (x .store) l) s) is
+
+  pub no-image : isImage l ≡ false → NotAnImage ≡ examined l s
+  unfolding examined
+  no-image e = simp (examined, e)
+
+  pub no-fit : isImage l ≡ true → fits (head l) s ≡ false → DoesNotFit ≡ examined l s
+  unfolding examined
+  no-fit e f = simp (examined, e, f)
+
+  pub no-fault : isImage l ≡ true → fits (head l) s ≡ true → Played ≡ examined l s
+  unfolding examined
+  no-fault e f = simp (examined, e, f)
+
+  -- where nothing is in the way both tests hold
+  pub both-hold : Played ≡ examined l s → (isImage l ≡ true) × (fits (head l) s ≡ true)
+  unfolding examined
+  both-hold = go (isImage l) (fits (head l) s)
+    where
+      go : (b f : Bool) → Played ≡ answerOf b f → (b ≡ true) × (f ≡ true)
+      go true true h = (refl, refl)
+      go true false h = absurd (omega (arith, ap number h))
+      go false f h = absurd (omega (arith, ap number h))
+
+-- an answer other than `Played`, as the last arm of a match is told it
+pub other : (a : Answer) → OneOf (1 ∷ 2 ∷ 3 ∷ 4 ∷ []) (tagOf the-type a) → a ≡ Played → ⊥
+other a k e = miss (1 ∷ 2 ∷ 3 ∷ 4 ∷ []) 0 tt (subst (λ (x : Answer). OneOf (1 ∷ 2 ∷ 3 ∷ 4 ∷ []) (tagOf the-type x)) e k)
