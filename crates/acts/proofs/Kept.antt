@@ -1,9 +1,8 @@
 -- An effect that leaves the head and the current file's bytes leaves the image.
-use Prim.Native.Nat.{ℕ, _+_, _≤_}
+use Prim.Native.Nat.{ℕ}
 use mathlib.Core.Path.{_≡_, refl, sym, ap, _∙_}
-use mathlib.Core.List.{List, []}
-use native.Mathlib.Omega.{arith}
-use lib.ListN.{length, take}
+use mathlib.Core.List.{List}
+use lib.ListN.{take}
 use Rattle.card.specs.Answers as card
 use Rattle.card.specs.Images.{Image}
 use Rattle.card.specs.Layout.{index, file, start, head, contents}
@@ -19,15 +18,16 @@ use Rattle.acts.specs.Leaves.{Tells}
 use Rattle.acts.specs.Ready.{Ready}
 use Rattle.acts.proofs.Lent.{frontBack, partBack}
 
-pub back : (l : List ℕ) (f : ℕ) → filled l (File f) (contents l f) ≡ l
+-- the current file's bytes, put back
+pub unfilled : (l : List ℕ) (c : Current) → filled l c (opened l c) ≡ l
 unfolding contents
-back l f = partBack l (start l f) (file l f .size)
+unfilled l Nothing = refl
+unfilled l (File f) = partBack l (start l f) (file l f .size)
 
 pub kept : (l : List ℕ) → Image l → (c : Current) (r : card.Reply) → l ≡ afterwards l c (card.effect (head l) (opened l c) r)
 unfolding head
-kept l m Nothing r = sym (frontBack l (index l .store) (store-inside l m))
-kept l m (File f) r =
-    sym (ap (λ (x : List ℕ). headed x (take (index l .store) l)) (back l f) ∙ frontBack l (index l .store) (store-inside l m))
+kept l m c r =
+    sym (ap (λ (x : List ℕ). headed x (take (index l .store) l)) (unfilled l c) ∙ frontBack l (index l .store) (store-inside l m))
 
 -- a reply whose data lie in the room, on an image that is left
 pub tells : {l : List ℕ} {s : Session} → Ready l s → (d : card.Reply) (t : Reply) (was is : List ℕ) → given.Gives d t was is

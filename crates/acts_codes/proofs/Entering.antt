@@ -1,6 +1,6 @@
 -- A command on a code whose entry was lent as a part of the image: the part that came back is the head's part, put back.
 use Prim.Native.Nat.{ℕ, _+_, _-_, _*_, _≤_, _<_}
-use mathlib.Core.Path.{_≡_, refl, sym, ap, subst, _∙_}
+use mathlib.Core.Path.{_≡_, sym, ap, subst, _∙_}
 use mathlib.Core.List.{List, _++_, append-assoc}
 use native.Mathlib.Omega.{arith}
 use lib.ListN.{length, take, drop, take-append-drop, length-drop}
@@ -9,9 +9,7 @@ use Rattle.card.specs.Answers as card
 use Rattle.card.specs.Bytes.{part, splice}
 use Rattle.card.specs.Images.{Image}
 use Rattle.card.specs.Layout.{index, codeAt, head}
-use Rattle.card.specs.Play.{opened, headed, filled}
-use Rattle.card.specs.declared.Current.{Current}
-use Rattle.card.specs.declared.Current.the-variants.{Nothing, File}
+use Rattle.card.specs.Play.{headed}
 use Rattle.card.specs.declared.Session.{Session}
 use Rattle.card.proofs.Images.{image}
 use Rattle.card.proofs.Parts.{length-splice, length-part}
@@ -19,7 +17,7 @@ use Rattle.commands.specs.Gives as given
 use Rattle.commands.specs.declared.answers.Reply.{Reply}
 use Rattle.acts.specs.Leaves.{Codes}
 use Rattle.acts.specs.Ready.{Ready}
-use Rattle.acts.proofs.Kept.{back}
+use Rattle.acts.proofs.Kept.{unfilled}
 use Rattle.card.proofs.Places.{store-inside}
 
 -- a part of the first of two lists, and other bytes there, as a part of both
@@ -55,11 +53,6 @@ module _ (l : List ℕ) (n at k : ℕ) (fits : at + k ≤ n) (inside : n ≤ len
       ap (λ (j : ℕ). splice (take n l) at k new ++ drop j l) m
       ∙ spliceOfBoth (take n l) (drop n l) at k (omega (arith, whole)) new
       ∙ ap (λ (x : List ℕ). splice x at k new) (take-append-drop n l)
-
--- the current file's bytes, put back
-unfilled : (l : List ℕ) (c : Current) → filled l c (opened l c) ≡ l
-unfilled l Nothing = refl
-unfilled l (File f) = back l f
 
 -- the codes' entries stand in the head
 before : (l : List ℕ) → Image l → (c : ℕ) → c < 2 → codeAt c + 20 ≤ index l .store

@@ -1,5 +1,5 @@
 // INVALIDATE and REHABILITATE on an image: they write the current file's mark. Without a current file each answers 94 00.
-use acts_stand::stand;
+use acts_stand::spot;
 use card::Current;
 use card::Session;
 use commands::answers::Reply;
@@ -20,7 +20,7 @@ pub fn invalidate(image: &mut [u8], s: Session) -> Reply
     let Current::File(f) = current else {
         return refusal(s, 0x9400);
     };
-    let p = stand(image, s, f);
+    let p = spot(image, s, f);
     let marked = commands_marks::invalidate(p.rights, p.entry, s);
     let status = p.at + STATUS;
     image[status] = marked.status;
@@ -36,7 +36,7 @@ pub fn rehabilitate(image: &mut [u8], s: Session) -> Reply
     let Current::File(f) = current else {
         return refusal(s, 0x9400);
     };
-    let p = stand(image, s, f);
+    let p = spot(image, s, f);
     let cleared = commands_marks::rehabilitate(p.rights, p.entry, s);
     let status = p.at + STATUS;
     image[status] = cleared.status;

@@ -18,7 +18,7 @@ module _ {l : List ℕ} {s : Session} {f : ℕ} {p : Place} (h : Here l s f p) w
   pub hasRead : (command : Rights → Entry → List ℕ → card.Reply) {t : Reply} {was is : List ℕ}
       → given.Gives (command (p .rights) (p .entry) (lent h)) t was is
       → Reads command l s t was is
-  hasRead command {t} {was} {is} g = carried h reads command (tells (h .ready) _ t was is g)
+  hasRead command {t} {was} {is} g = carried h reads command (tells (h .spotted .ready) _ t was is g)
 
   -- a word alone, for every room
   pub hasSaid : (command : Rights → Entry → List ℕ → card.Reply) {t : Reply}

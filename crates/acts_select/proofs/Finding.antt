@@ -1,5 +1,5 @@
 -- SELECT and STATUS on an image whose head was lent as its first bytes.
-use Prim.Native.Nat.{ℕ, _≤_, _<_}
+use Prim.Native.Nat.{ℕ, _+_, _*_, _≤_, _<_}
 use mathlib.Core.Path.{_≡_, ap}
 use mathlib.Core.List.{List}
 use mathlib.Core.Bool.{true}
@@ -7,7 +7,7 @@ use native.Mathlib.Omega.{arith}
 use lib.ListN.{take}
 use borrow.Author.Tests.{ltb-true}
 use Rattle.card.specs.Answers as card
-use Rattle.card.specs.Layout.{index, file, head}
+use Rattle.card.specs.Layout.{index, fileEntry, head}
 use Rattle.card.specs.Select.{findDirectory, findFile, directoryResponse, fileResponse, select, tellStatus}
 use Rattle.card.specs.Sessions.{fits}
 use Rattle.card.specs.declared.Entry.{Entry}
@@ -18,7 +18,7 @@ use Rattle.commands.specs.Gives.{Gives, Says}
 use Rattle.commands.specs.declared.answers.Reply.{Reply}
 use Rattle.commands_select.specs.Finds.{Leads, Strays, Names, Misses}
 use Rattle.shelf.specs.Reads.{Head}
-use Rattle.shelf.proofs.Heading.{head-of}
+use Rattle.shelf.proofs.Heading.{head-of, file-read}
 use Rattle.acts.specs.Leaves.{Tells}
 use Rattle.acts.specs.Ready.{Ready}
 use Rattle.acts.proofs.Kept.{tells, quiet}
@@ -67,13 +67,13 @@ module _ {l : List ℕ} {s : Session} (r : Ready l s) (i : Index) (is : i ≡ in
 
   pub toFile : (id d f : ℕ) (x : Entry) (bytes : List ℕ) (t : Reply) → d ≡ findDirectory (take (i .store) l) (s .directory) id → i .directories ≤ d
       → f ≡ findFile (take (i .store) l) (s .directory) id → f < i .files
-      → x ≡ file (take (i .store) l) f
+      → x ≡ fileEntry (take (i .store) l) (i .table + 14 * f)
       → bytes ≡ fileResponse x
       → ((h : List ℕ) (id : ℕ) → Names h s id f x bytes → Says (select h s id) t)
       → (room : List ℕ) → Tells (select (head l) s id) l s t room room
   toFile id d f x bytes t e n g m q b says =
       silently (λ h. select h s id) t
-      (says (take (i .store) l) id (record { strays = strays id d e n; found = g; inside = omega (arith, files); entry = q; told = b }))
+      (says (take (i .store) l) id (record { strays = strays id d e n; found = g; inside = omega (arith, files); entry = file-read (take (i .store) l) i known f x q; told = b }))
 
   pub toNothing : (id d f : ℕ) (t : Reply) → d ≡ findDirectory (take (i .store) l) (s .directory) id → i .directories ≤ d
       → f ≡ findFile (take (i .store) l) (s .directory) id → i .files ≤ f

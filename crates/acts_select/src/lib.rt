@@ -20,7 +20,7 @@ pub fn select(image: &[u8], s: Session, id: u16) -> Reply
     requires { ⌜ Ready (now image) s ⌝ }
     ensures { λ t. ⌜ ((room : List ℕ) → Tells (select (head (now (image .entry))) s id) (now (image .entry)) s t room room) ⌝ }
 {
-    let i = read::index(image);
+    let i = read::image_index(image);
     let store = i.store;
     let head = &image[..store];
     let d = shelf_find::find_directory(head, i, s.directory, id);
@@ -30,7 +30,7 @@ pub fn select(image: &[u8], s: Session, id: u16) -> Reply
     }
     let f = shelf_find::find_file(head, i, s.directory, id);
     if f < i.files {
-        let e = read::file(head, i, f);
+        let e = entries::file(head, i.table + 14 * f);
         let told = shelf_tell::file_response(e);
         return select_file(f, e, told, s);
     }
@@ -43,7 +43,7 @@ pub fn status(image: &[u8], s: Session, n: usize, room: &mut [u8]) -> Reply
     requires { ⌜ (n ≤ 22) × (22 ≤ length (now room)) ⌝ }
     ensures { λ t. ⌜ Tells (tellStatus (head (now (image .entry))) s n) (now (image .entry)) s t (now (room .entry)) (now (room .exit)) ⌝ }
 {
-    let i = read::index(image);
+    let i = read::image_index(image);
     let store = i.store;
     let told = shelf_tell::directory_response(&image[..store], i, s.directory);
     tell_status(told, s, n, room)

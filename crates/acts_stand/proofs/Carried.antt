@@ -27,8 +27,9 @@ use Rattle.commands_records.proofs.Granted.{standing}
 use Rattle.acts.specs.Leaves.{Leaves}
 use Rattle.acts.specs.Ready.{Ready}
 use Rattle.acts.proofs.Kept.{tells}
-use Rattle.acts_stand.specs.Here.{Here, place}
+use Rattle.acts_stand.specs.Here.{Spotted, Here, site}
 use Rattle.acts_stand.specs.declared.Place.{Place}
+use Rattle.acts_stand.specs.declared.Site.{Site}
 use Rattle.acts_stand.proofs.Standing.{points-within}
 
 module _ {A : Type 0} (leave : List ℕ → List ℕ → ℕ → A → card.Effect) where
@@ -54,6 +55,24 @@ module _ {A : Type 0} (leave : List ℕ → List ℕ → ℕ → A → card.Effe
       subst (λ (x : card.Effect). Leaves x l s t l room room) (by-none (λ r e. command r e b) (head l) b s c)
       (tells r (card.refusal s 0x9400) t room room (record { reply = e; room = refl }))
 
+module _ {l : List ℕ} {s : Session} {f : ℕ} {p : Site} (h : Spotted l s f p) where
+  -- what the command saw is what the definition hands it
+  seen : {A : Type 0} (command : Rights → Entry → A) → command (p .rights) (p .entry) ≡ command (rights (head l) s) (file (head l) f)
+  unfolding site
+  seen command =
+      ap (λ (p : Site). command (p .rights) (p .entry)) (h .is) ∙ ap (command (rights (head l) s)) (sym (file-head l f (h .among)))
+
+  -- an effect on file f is the command's on the current file
+  pub byEntry : {A : Type 0} (leave : List ℕ → List ℕ → ℕ → A → card.Effect) (command : Rights → Entry → A) {t : Reply}
+      {image was is : List ℕ}
+      → Leaves (leave (head l) (opened l (s .current)) f (command (p .rights) (p .entry))) l s t image was is
+      → Leaves (byFile leave (head l) (opened l (s .current)) s command) l s t image was is
+  byEntry leave command {t} {image} {was} {is} g =
+      let b : List ℕ = opened l (s .current) in
+      subst (λ (x : card.Effect). Leaves x l s t image was is)
+      (ap (leave (head l) b f) (seen command) ∙ by-some leave command (head l) b s f (h .current))
+      g
+
 module _ {l : List ℕ} {s : Session} {f : ℕ} {p : Place} (h : Here l s f p) where
   -- the file's bytes, as the code lends them
   abbrev pub span : ℕ
@@ -62,45 +81,37 @@ module _ {l : List ℕ} {s : Session} {f : ℕ} {p : Place} (h : Here l s f p) w
   abbrev pub lent : List ℕ
   lent = part l (p .start) span
 
-  pub bytes : lent ≡ opened l (s .current)
-  unfolding place contents
-  bytes = rw (h .current) (simp (h .is, add-sub-cancel-left))
+  bytes : lent ≡ opened l (s .current)
+  unfolding contents
+  bytes = rw (h .spotted .current) (simp (h .starts, h .ends, add-sub-cancel-left))
+
+  pub entry-is : p .entry ≡ file l f
+  unfolding site
+  entry-is = ap (λ (x : Site). x .entry) (h .spotted .is)
 
   pub full : length lent ≡ p .entry .size
-  unfolding place
   full =
       let n = h .inside in
       let m = h .filled in
-      length-part l (p .start) span (omega arith) ∙ (simp (h .is, add-sub-cancel-left))
+      length-part l (p .start) span (omega arith) ∙ (simp (h .starts, h .ends, add-sub-cancel-left, entry-is))
 
   -- what the commands on a file take for granted
   pub rules : all (fileRules l f (p .entry)) ≡ true
-  unfolding place
-  rules = rw (h .is) (file-rules l f (file l f) (image l (h .ready .image) .file f (h .among)))
+  rules = rw entry-is (file-rules l f (file l f) (image l (h .spotted .ready .image) .file f (h .spotted .among)))
 
   pub granted : Stands (p .entry) lent (s .pointer)
-  unfolding place fileRules
+  unfolding fileRules
   granted =
       standing (p .entry) lent (s .pointer) full (all-at (fileRules l f (p .entry)) rules 6)
       (all-at (fileRules l f (p .entry)) rules 10)
-      (rw (h .is) (points-within (h .ready) f (h .current)))
+      (rw entry-is (points-within (h .spotted .ready) f (h .spotted .current)))
 
-  -- what the command saw is what the definition hands it
-  seen : {A : Type 0} (command : Rights → Entry → List ℕ → A)
-      → command (p .rights) (p .entry) lent ≡ command (rights (head l) s) (file (head l) f) (opened l (s .current))
-  unfolding place
-  seen command =
-      ap (command (p .rights) (p .entry)) bytes
-      ∙ ap (λ (p : Place). command (p .rights) (p .entry) (opened l (s .current))) (h .is)
-      ∙ ap (λ (e : Entry). command (rights (head l) s) e (opened l (s .current))) (sym (file-head l f (h .among)))
-
-  -- an effect on file f is the command's on the current file
+  -- the same of a command that goes by the file's bytes too
   pub carried : {A : Type 0} (leave : List ℕ → List ℕ → ℕ → A → card.Effect) (command : Rights → Entry → List ℕ → A) {t : Reply}
       {image was is : List ℕ}
       → Leaves (leave (head l) (opened l (s .current)) f (command (p .rights) (p .entry) lent)) l s t image was is
       → Done leave command l s t image was is
   carried leave command {t} {image} {was} {is} g =
       let b : List ℕ = opened l (s .current) in
-      subst (λ (x : card.Effect). Leaves x l s t image was is)
-      (ap (leave (head l) b f) (seen command) ∙ by-some leave (λ r e. command r e b) (head l) b s f (h .current))
-      g
+      byEntry (h .spotted) leave (λ r e. command r e b)
+      (subst (λ (x : List ℕ). Leaves (leave (head l) b f (command (p .rights) (p .entry) x)) l s t image was is) bytes g)

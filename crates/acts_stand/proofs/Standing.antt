@@ -22,9 +22,12 @@ use Rattle.card.specs.declared.Session.{Session}
 use Rattle.card.proofs.Frames.{placed}
 use Rattle.card.proofs.Heads.{index-head, code-head, file-head}
 use Rattle.card.proofs.Images as card
+use Rattle.card.proofs.Places.{file-inside}
 use Rattle.card.proofs.Tests.{both}
+use Rattle.shelf.proofs.Heading.{file-read}
 use Rattle.acts.specs.Ready.{Ready}
-use Rattle.acts_stand.specs.Here.{Here, place}
+use Rattle.acts_stand.specs.Here.{Spotted, Here, site}
+use Rattle.acts_stand.specs.declared.Site.{Site}
 
 -- the sizes of the files, summed one after the other
 pub no-sizes : (l : List ℕ) → 0 ≡ sizes l 0
@@ -76,33 +79,41 @@ module _ {l : List ℕ} {s : Session} (r : Ready l s) (f : ℕ) (c : s .current 
   pub start-inside : start l f ≤ length l
   start-inside = let w = card.inside l (card.image l (r .image)) f among in omega arith
 
-  -- the entries before the file's own are all there
-  pub entries-inside : (i : Index) → i ≡ index l → i .table + 14 * f ≤ length l
-  unfolding start
-  entries-inside i is = let z = placed l in let n = among in let w = start-inside in rw is (omega arith)
+  -- the file's entry is all there, and so are those before it
+  pub entry-inside : (i : Index) → i ≡ index l → i .table + 14 * f + 14 ≤ length l
+  entry-inside i is = rw is (file-inside l (card.image l (r .image)) f among)
 
   -- what was read of the current file
-  module _ (i : Index) (is : i ≡ index l) where
-    pub here : (rights′ : Rights) (e : Entry) (start′ end : ℕ)
-        → rights′ ≡ rights l s
-        → e ≡ fileEntry l (i .table + 14 * f)
-        → start′ ≡ start l f
-        → end ≡ e .size
-        → Here l s f (record { rights = rights′; entry = e; at = i .table + 14 * f; start = start′; end = start′ + end })
-    unfolding place file start
-    here rights′ e start′ end p q t u =
-        let m = card.image l (r .image) in
-        let z = placed l in
-        let n = among in
-        let w = card.inside l m f among in
-        let h : e ≡ file l f = q ∙ ap (λ (x : Index). fileEntry l (fileAt x f)) is in
-        let size : end ≡ file l f .size = u ∙ ap (λ (x : Entry). x .size) h in
-        record {
-          ready = r;
-          current = c;
-          among = among;
-          is = simp (p, h, t, size, is, rights-head l m s);
-          before = rw (is, t) (omega arith);
-          filled = omega arith;
-          inside = rw (size, t) w;
-        }
+  pub spotted : (i : Index) → i ≡ index l → (rights′ : Rights) (e : Entry)
+      → rights′ ≡ rights l s
+      → e ≡ fileEntry l (i .table + 14 * f)
+      → Spotted l s f (record { rights = rights′; entry = e; at = i .table + 14 * f })
+  unfolding site
+  spotted i is rights′ e p q =
+      record {
+        ready = r;
+        current = c;
+        among = among;
+        is = simp (p, file-read l i is f e q, is, rights-head l (card.image l (r .image)) s);
+        inside = entry-inside i is;
+      }
+
+-- and where its bytes start and end
+pub here : {l : List ℕ} {s : Session} {f : ℕ} {p : Site} → Spotted l s f p → (start′ size : ℕ)
+    → start′ ≡ start l f
+    → size ≡ p .entry .size
+    → Here l s f (record { rights = p .rights; entry = p .entry; at = p .at; start = start′; end = start′ + size })
+unfolding site start
+here {l} {s} {f} {p} h start′ size t u =
+    let z = placed l in
+    let n = h .among in
+    let whole : size ≡ file l f .size = u ∙ ap (λ (x : Site). x .entry .size) (h .is) in
+    let at : p .at ≡ fileAt (index l) f = ap (λ (x : Site). x .at) (h .is) in
+    record {
+      spotted = h;
+      starts = t;
+      ends = rw (t, whole);
+      before = rw (at, t) (omega arith);
+      filled = omega arith;
+      inside = rw (whole, t) (card.inside l (card.image l (h .ready .image)) f n);
+    }

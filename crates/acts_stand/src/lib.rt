@@ -13,9 +13,16 @@ ghost use Rattle.card.specs.Layout.{start};
 ghost use Rattle.card.specs.declared.Current.the-variants.{File};
 ghost use Rattle.shelf.specs.Reads.{Indexed};
 ghost use Rattle.acts.specs.Ready.{Ready};
-ghost use Rattle.acts_stand.specs.Here.{Here};
+ghost use Rattle.acts_stand.specs.Here.{Spotted, Here};
 
-// The rights, the file's entry and the entry's place, and where the file's bytes start and end.
+// The rights, the file's entry and the entry's place.
+pub struct Site {
+    pub rights: Rights,
+    pub entry: Entry,
+    pub at: usize,
+}
+
+// The same, and where the file's bytes start and end.
 pub struct Place {
     pub rights: Rights,
     pub entry: Entry,
@@ -24,12 +31,18 @@ pub struct Place {
     pub end: usize,
 }
 
+// Where the codes' entries stand.
+const CHV1: usize = 2;
+
+const CHV2: usize = 22;
+
 // Which of levels 1 and 2 the codes and the session fulfil.
 fn rights(l: &[u8], s: Session) -> Rights
+    requires { ⌜ 42 ≤ length (now l) ⌝ }
     ensures { λ r. ⌜ r ≡ rights (now (l .entry)) s ⌝ }
 {
-    let one = read::code(l, 0);
-    let two = read::code(l, 1);
+    let one = entries::code(l, CHV1);
+    let two = entries::code(l, CHV2);
     Rights {
         level1: (0 < one.attempts) & ((one.flags % 2 == 1) | s.chv1),
         level2: (0 < two.attempts) & s.chv2,
@@ -52,17 +65,30 @@ fn start(l: &[u8], i: Index, f: usize) -> usize
     i.store + sum
 }
 
+// The current file, but for its bytes: no size is summed up. Only this player's crates call it.
+pub fn spot(l: &[u8], s: Session, f: usize) -> Site
+    requires { ⌜ Ready (now l) s ⌝ }
+    requires { ⌜ s .current ≡ File f ⌝ }
+    ensures { λ p. ⌜ Spotted (now (l .entry)) s f p ⌝ }
+{
+    let i = read::image_index(l);
+    let at = i.table + 14 * f;
+    let rights = rights(l, s);
+    let entry = entries::file(l, at);
+    Site { rights, entry, at }
+}
+
 // The current file. Only this player's crates call it.
 pub fn stand(l: &[u8], s: Session, f: usize) -> Place
     requires { ⌜ Ready (now l) s ⌝ }
     requires { ⌜ s .current ≡ File f ⌝ }
     ensures { λ p. ⌜ Here (now (l .entry)) s f p ⌝ }
 {
-    let i = read::index(l);
-    let at = i.table + 14 * f;
-    let rights = rights(l, s);
-    let entry = read::file_at(l, at);
-    let start = start(l, i, f);
+    let site = spot(l, s, f);
+    let rights = site.rights;
+    let entry = site.entry;
+    let at = site.at;
+    let start = start(l, read::image_index(l), f);
     let end = start + wide_word(entry.size);
     Place {
         rights,

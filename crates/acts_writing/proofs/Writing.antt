@@ -19,9 +19,9 @@ use Rattle.commands.specs.declared.answers.Reply.{Reply}
 use Rattle.commands_increase.specs.Counts.{Counts}
 use Rattle.commands_increase.proofs.Counting.{counting}
 use Rattle.acts.specs.Leaves.{Writes}
-use Rattle.acts_stand.specs.Here.{Here, place}
+use Rattle.acts_stand.specs.Here.{Here}
 use Rattle.acts_stand.specs.declared.Place.{Place}
-use Rattle.acts_stand.proofs.Carried.{span, lent, rules, carried}
+use Rattle.acts_stand.proofs.Carried.{span, lent, entry-is, rules, carried}
 use Rattle.acts_stand.proofs.Changed.{changed, unchanged}
 
 module _ {l : List ℕ} {s : Session} {f : ℕ} {p : Place} (h : Here l s f p) where
@@ -58,5 +58,5 @@ module _ {l : List ℕ} {s : Session} {f : ℕ} {p : Place} (h : Here l s f p) w
   pub hasFilled : (command : Rights → Entry → List ℕ → card.Written) {t : Reply} {b : List ℕ}
       → given.Writes (command (p .rights) (p .entry) (lent h)) t b (p .entry .top)
       → Writes command l s t (splice l (p .start) (span h) b)
-  unfolding place file fileEntry
-  hasFilled command {t} {b} g = wrote command g (unchanged h 12 (omega arith) b ∙ (simp (h .is)))
+  unfolding file fileEntry
+  hasFilled command {t} {b} g = wrote command g (unchanged h 12 (omega arith) b ∙ (simp (entry-is h)))

@@ -1,12 +1,15 @@
 -- Laws of what is told of a directory and a file.
-use Prim.Native.Nat.{ℕ, _+_, _<_, _/_, _%_}
+use Prim.Native.Nat.{ℕ, _+_, _≤_, _<_, _/_, _%_}
 use mathlib.Core.Path.{_≡_, ap, _∙_}
 use mathlib.Core.List.{List, [], _∷_}
 use mathlib.Core.Bool.{Bool}
+use native.Mathlib.Omega.{arith}
+use lib.ListN.{length}
 use borrow.Author.Tests.{eq-eqb, ne-eqb}
 use Rattle.card.specs.Bytes.{bit, howMany}
-use Rattle.card.specs.Layout.{index, code, directory, file, disabled}
+use Rattle.card.specs.Layout.{index, codeAt, codeEntry, code, directory, file, disabled}
 use Rattle.card.specs.Select.{b8, codeStatus, unblockStatus, child, children, member, members, directoryType, directoryResponse}
+use Rattle.card.proofs.Frames.{placed}
 use Rattle.shelf.specs.Reads.{Head, Counters}
 use Rattle.card.specs.declared.Index.{Index}
 use Rattle.card.specs.declared.Code.{Code}
@@ -38,14 +41,19 @@ module _ (h : List ℕ) (i : Index) (sound : Head h i) where
   pub plain : (d : ℕ) (e : Directory) → e ≡ directory h d → d < i .directories → e .characteristics < 128
   plain d e k lt = rw k (sound .sound .directory d (rw (← sound .indexed .is) lt) .characteristics)
 
-  pub counters : (c : ℕ) (k : Code) → k ≡ code h c → c < 2 → Counters k
+  -- the codes' entries are all there, and their counters are small
+  pub codes-inside : 42 ≤ length h
+  codes-inside = let p = placed h in let w = sound .sound .whole in let n = sound .sound .codes in omega arith
+
+  pub counters : (c : ℕ) (k : Code) → k ≡ codeEntry h (codeAt c) → c < 2 → Counters k
+  unfolding code
   counters c k e lt = let r = sound .sound .code c lt in rw e (record { attempts = r .attempts; unblocks = r .unblocks })
 
 -- The 22 bytes on a directory, from its entry, the two codes and the two counts.
 pub directory-told : (h : List ℕ) (d : ℕ) (e : Directory) (k k′ : Code) (m m′ n n′ t x y z a u a′ u′ : ℕ)
     → e ≡ directory h d
-    → k ≡ code h 0
-    → k′ ≡ code h 1
+    → k ≡ codeEntry h (codeAt 0)
+    → k′ ≡ codeEntry h (codeAt 1)
     → m ≡ e .memory / 256
     → m′ ≡ e .memory % 256
     → n ≡ e .identifier / 256
@@ -59,6 +67,6 @@ pub directory-told : (h : List ℕ) (d : ℕ) (e : Directory) (k k′ : Code) (m
     → a′ ≡ codeStatus k′
     → u′ ≡ unblockStatus k′
     → (0 ∷ 0 ∷ m ∷ m′ ∷ n ∷ n′ ∷ t ∷ 0 ∷ 0 ∷ 0 ∷ 0 ∷ 0 ∷ 9 ∷ x ∷ y ∷ z ∷ e .codes ∷ 0 ∷ a ∷ u ∷ a′ ∷ u′ ∷ []) ≡ directoryResponse h d
-unfolding directoryResponse
+unfolding directoryResponse code
 directory-told h d e k k′ m m′ n n′ t x y z a u a′ u′ E K K′ M M′ N N′ T X Y Z A U A′ U′ =
     rw (M, M′, N, N′, T, X, Y, Z, A, U, A′, U′, E, K, K′)

@@ -12,6 +12,11 @@ use card::Entry;
 use card::Index;
 use shelf::read;
 
+// Where the codes' entries stand.
+const CHV1: usize = 2;
+
+const CHV2: usize = 22;
+
 // A word's two bytes.
 fn high(w: u16) -> u8
     ensures { λ r. ⌜ r ≡ w / 256 ⌝ }
@@ -142,8 +147,8 @@ pub fn directory_response(head: &[u8], i: Index, d: usize) -> [u8; 22]
 {
     let below = children(head, i, d) as u8;
     let inside = members(head, i, d) as u8;
-    let chv1 = read::code(head, 0);
-    let chv2 = read::code(head, 1);
+    let chv1 = entries::code(head, CHV1);
+    let chv2 = entries::code(head, CHV2);
     let e = read::directory(head, i, d);
     [
         0,

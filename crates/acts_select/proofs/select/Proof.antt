@@ -7,22 +7,22 @@ use borrow.Author.Needs.{needs}
 use Rattle.acts_select.proofs.select.Statement.{statement}
 use Rattle.acts_select.proofs.select.Tie as tie
 
-index-requires : tie.Need-index-requires
-index-requires c κs = search needs
+image-index-requires : tie.Need-image-index-requires
+image-index-requires c κs = search needs
 
 slice-aggregate-head : tie.Need-slice-aggregate-head
 slice-aggregate-head c =
-    head-length (now (c .before .before .before .args .image)) _ (c .before .index .ensures .is) (c .before .before .before .pre .image)
+    head-length (now (c .before .before .before .args .image)) _ (c .before .image-index .ensures .is) (c .before .before .before .pre .image)
 
 find-directory-requires : tie.Need-find-directory-requires
 find-directory-requires c κs =
-    let h = heading (c .before .before .before .pre) _ (c .before .index .ensures .is) in
-    (h, here (c .before .before .before .pre) _ (c .before .index .ensures .is))
+    let h = heading (c .before .before .before .pre) _ (c .before .image-index .ensures .is) in
+    (h, here (c .before .before .before .pre) _ (c .before .image-index .ensures .is))
 
 directory-response-requires : tie.Need-directory-response-requires
 directory-response-requires c κs =
     let d = c .before .before .before .before in
-    (heading (d .before .before .pre) _ (d .index .ensures .is), omega arith)
+    (heading (d .before .before .pre) _ (d .image-index .ensures .is), omega arith)
 
 select-directory-requires : tie.Need-select-directory-requires
 select-directory-requires c κs = search needs
@@ -30,7 +30,7 @@ select-directory-requires c κs = search needs
 returns : tie.Need-returns
 returns c =
     let e = c .before .before .before .before .before .before .before .before in
-    toDirectory (e .pre) _ (c .before .before .before .before .before .before .index .ensures .is) _ _ _ _
+    toDirectory (e .pre) _ (c .before .before .before .before .before .before .image-index .ensures .is) _ _ _ _
     (c .before .before .before .before .find-directory .ensures)
     (c .before .before .if1 .taken)
     (c .before .directory-response .ensures)
@@ -39,13 +39,19 @@ returns c =
 find-file-requires : tie.Need-find-file-requires
 find-file-requires c κs =
     let d = c .before .before .before .before in
-    heading (d .before .before .pre) _ (d .index .ensures .is)
+    heading (d .before .before .pre) _ (d .image-index .ensures .is)
+
+mul-file : tie.Need-mul-file
+mul-file c = search needs
+
+add-file : tie.Need-add-file
+add-file c = search needs
 
 file-requires : tie.Need-file-requires
 file-requires c κs =
-    let d = c .before .before .before .before .before .before .before in
-    let h = heading (d .before .before .pre) _ (d .index .ensures .is) in
-    (h .indexed, omega (arith, c .if2 .taken, h .files))
+    let d = c .before .before .before .before .before .before .before .before in
+    let h = heading (d .before .before .pre) _ (d .image-index .ensures .is) in
+    omega (arith, c .before .if2 .taken, h .whole)
 
 file-response-requires : tie.Need-file-response-requires
 file-response-requires c κs = search needs
@@ -55,13 +61,13 @@ select-file-requires c κs = search needs
 
 returns-2 : tie.Need-returns-2
 returns-2 c =
-    let e = c .before .before .before .before .before .before .before .before .before .before .before .before in
-    let d = c .before .before .before .before .before .before in
-    toFile (e .pre) _ (d .before .before .before .before .index .ensures .is) _ _ _ _ _ _
+    let e = c .before .before .before .before .before .before .before .before .before .before .before .before .before in
+    let d = c .before .before .before .before .before .before .before in
+    toFile (e .pre) _ (d .before .before .before .before .image-index .ensures .is) _ _ _ _ _ _
     (d .before .before .find-directory .ensures)
     (d .if1 .left)
-    (c .before .before .before .before .before .find-file .ensures)
-    (c .before .before .before .if2 .taken)
+    (c .before .before .before .before .before .before .find-file .ensures)
+    (c .before .before .before .before .if2 .taken)
     (c .before .before .file .ensures)
     (c .before .file-response .ensures)
     (c .select-file .ensures)
@@ -73,7 +79,7 @@ returns-3 : tie.Need-returns-3
 returns-3 c =
     let e = c .before .before .before .before .before .before .before .before .before .before in
     let d = c .before .before .before .before in
-    toNothing (e .pre) _ (d .before .before .before .before .index .ensures .is) _ _ _ _
+    toNothing (e .pre) _ (d .before .before .before .before .image-index .ensures .is) _ _ _ _
     (d .before .before .find-directory .ensures)
     (d .if1 .left)
     (c .before .before .before .find-file .ensures)
@@ -84,13 +90,15 @@ pub select-spec : {M : Type 1} → statement M
 select-spec =
     tie.close
     (tie.spec
-    index-requires
+    image-index-requires
     slice-aggregate-head
     find-directory-requires
     directory-response-requires
     select-directory-requires
     returns
     find-file-requires
+    mul-file
+    add-file
     file-requires
     file-response-requires
     select-file-requires

@@ -7,17 +7,17 @@ use borrow.Author.Needs.{needs}
 use Rattle.acts_select.proofs.status.Statement.{statement}
 use Rattle.acts_select.proofs.status.Tie as tie
 
-index-requires : tie.Need-index-requires
-index-requires c κs = search needs
+image-index-requires : tie.Need-image-index-requires
+image-index-requires c κs = search needs
 
 slice-aggregate-directory-response : tie.Need-slice-aggregate-directory-response
 slice-aggregate-directory-response c =
-    head-length (now (c .before .before .before .before .args .image)) _ (c .before .index .ensures .is) (c .before .before .before .before .pre .0 .image)
+    head-length (now (c .before .before .before .before .args .image)) _ (c .before .image-index .ensures .is) (c .before .before .before .before .pre .0 .image)
 
 directory-response-requires : tie.Need-directory-response-requires
 directory-response-requires c κs =
     let e = c .before .before .before .before in
-    (heading (e .pre .0) _ (c .before .index .ensures .is), omega (arith, here (e .pre .0) _ (c .before .index .ensures .is)))
+    (heading (e .pre .0) _ (c .before .image-index .ensures .is), omega (arith, here (e .pre .0) _ (c .before .image-index .ensures .is)))
 
 tell-status-requires : tie.Need-tell-status-requires
 tell-status-requires c κs = search needs
@@ -28,7 +28,7 @@ same-length c = search needs
 returns : tie.Need-returns
 returns c =
     let e = c .before .before .before .before .before .before .before .before .before in
-    status (e .pre .0) _ (c .before .before .before .before .before .before .index .ensures .is) _ _ _ _ _
+    status (e .pre .0) _ (c .before .before .before .before .before .before .image-index .ensures .is) _ _ _ _ _
     (c .before .before .before .before .directory-response .ensures)
     (c .before .before .tell-status .ensures)
 
@@ -36,7 +36,7 @@ pub status-spec : {M : Type 1} → statement M
 status-spec =
     tie.close
     (tie.spec
-    index-requires
+    image-index-requires
     slice-aggregate-directory-response
     directory-response-requires
     tell-status-requires

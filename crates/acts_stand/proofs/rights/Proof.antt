@@ -1,6 +1,7 @@
 -- `acts_stand::rights` meets its contract.
 use borrow.Author.Needs.{needs}
 use Rattle.card.specs.Access.{rights}
+use Rattle.card.specs.Layout.{code}
 use Rattle.acts_stand.proofs.rights.Statement.{statement}
 use Rattle.acts_stand.proofs.rights.Tie as tie
 
@@ -11,7 +12,7 @@ code-requires-2 : tie.Need-code-requires-2
 code-requires-2 c κs = search needs
 
 returns : tie.Need-returns
-unfolding rights
+unfolding rights code
 returns c =
     simp (
       c .before .before .before .before .before .before .code .ensures,

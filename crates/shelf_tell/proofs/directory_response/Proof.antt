@@ -1,6 +1,6 @@
 -- `shelf_tell::directory_response` meets its contract: byte by byte, and the counters are small since the head is an image's.
 use native.Mathlib.Omega.{arith}
-use Rattle.shelf_tell.proofs.Told.{plain, counters, directory-told}
+use Rattle.shelf_tell.proofs.Told.{plain, codes-inside, counters, directory-told}
 use borrow.Author.Needs.{needs}
 use Rattle.shelf_tell.proofs.directory_response.Statement.{statement}
 use Rattle.shelf_tell.proofs.directory_response.Tie as tie
@@ -18,10 +18,10 @@ cast-inside : tie.Need-cast-inside
 cast-inside c = search needs
 
 code-requires : tie.Need-code-requires
-code-requires c κs = search needs
+code-requires c κs = omega (arith, codes-inside _ _ (c .before .before .before .pre .0))
 
 code-requires-2 : tie.Need-code-requires-2
-code-requires-2 c κs = search needs
+code-requires-2 c κs = omega (arith, codes-inside _ _ (c .before .before .before .before .pre .0))
 
 directory-requires : tie.Need-directory-requires
 directory-requires c κs = search needs
@@ -45,16 +45,16 @@ characteristics-requires : tie.Need-characteristics-requires
 characteristics-requires c κs = plain _ _ (c .before .before .before .before .before .before .before .before .before .before .before .pre .0) _ _ (c .before .before .before .before .before .directory .ensures) (c .before .before .before .before .before .before .before .before .before .before .before .pre .1)
 
 code-status-requires : tie.Need-code-status-requires
-code-status-requires c κs = counters _ _ (c .before .before .before .before .before .before .before .before .before .before .before .before .pre .0) _ _ (c .before .before .before .before .before .before .before .before .code .ensures) (omega arith)
+code-status-requires c κs = counters _ _ (c .before .before .before .before .before .before .before .before .before .before .before .before .pre .0) 0 _ (c .before .before .before .before .before .before .before .before .code .ensures) (omega arith)
 
 unblock-status-requires : tie.Need-unblock-status-requires
-unblock-status-requires c κs = counters _ _ (c .before .before .before .before .before .before .before .before .before .before .before .before .before .pre .0) _ _ (c .before .before .before .before .before .before .before .before .before .code .ensures) (omega arith)
+unblock-status-requires c κs = counters _ _ (c .before .before .before .before .before .before .before .before .before .before .before .before .before .pre .0) 0 _ (c .before .before .before .before .before .before .before .before .before .code .ensures) (omega arith)
 
 code-status-requires-2 : tie.Need-code-status-requires-2
-code-status-requires-2 c κs = counters _ _ (c .before .before .before .before .before .before .before .before .before .before .before .before .before .before .pre .0) _ _ (c .before .before .before .before .before .before .before .before .before .code2 .ensures) (omega arith)
+code-status-requires-2 c κs = counters _ _ (c .before .before .before .before .before .before .before .before .before .before .before .before .before .before .pre .0) 1 _ (c .before .before .before .before .before .before .before .before .before .code2 .ensures) (omega arith)
 
 unblock-status-requires-2 : tie.Need-unblock-status-requires-2
-unblock-status-requires-2 c κs = counters _ _ (c .before .before .before .before .before .before .before .before .before .before .before .before .before .before .before .pre .0) _ _ (c .before .before .before .before .before .before .before .before .before .before .code2 .ensures) (omega arith)
+unblock-status-requires-2 c κs = counters _ _ (c .before .before .before .before .before .before .before .before .before .before .before .before .before .before .before .pre .0) 1 _ (c .before .before .before .before .before .before .before .before .before .before .code2 .ensures) (omega arith)
 
 returns : tie.Need-returns
 returns c = directory-told _ _ _ _ _ _ _ _ _ _ _ _ _ _ _ _ _
