@@ -26,14 +26,16 @@ pub fn whole(image: &[u8], i: Index) -> bool
         & (i.store <= image.len())
 }
 
-// Both codes. They stand at a fixed place; the index is there for what it tells of the length.
+// Both codes. They stand at a fixed place; the index is there for what it tells of the length. Each its own way out: joined by `&` the
+// two are tested by vector instructions, which takes longer.
 pub fn codes_sound(image: &[u8], i: Index) -> bool
     requires { ⌜ Whole (now image) i ⌝ }
     ensures { λ r. ⌜ r ≡ codesSound (now (image .entry)) ⌝ }
 {
-    let first = rules::code_rules(0, entries::code(image, CODES));
-    let second = rules::code_rules(1, entries::code(image, CODES + 20));
-    first & second
+    if !rules::code_rules(0, entries::code(image, CODES)) {
+        return false;
+    }
+    rules::code_rules(1, entries::code(image, CODES + 20))
 }
 
 // Every directory keeps its rules. One pass: the keys of those before it are marked.
