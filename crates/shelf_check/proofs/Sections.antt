@@ -22,6 +22,7 @@ use Rattle.card.proofs.Places.{code-place, directory-place, file-place, section
 use Rattle.card.proofs.Tests.{both, joint, same-test, decided, apart}
 use Rattle.shelf.specs.Reads.{Indexed}
 use Rattle.shelf.proofs.Loops.{every-not}
+use Rattle.shelf_check.specs.Homes.{Homes}
 use Rattle.shelf_check.specs.Whole.{Whole}
 use Rattle.shelf_check.specs.Tallies.{tally}
 use Rattle.shelf_check.specs.declared.check.Tally.{Tally}
@@ -154,6 +155,9 @@ module _ (l : List ℕ) (i : Index) (w : Whole l i) where
 
   pub file-inside : (f : ℕ) → f < i .files → i .table + 14 * f + 14 ≤ length l
   file-inside = rw index-is (λ f lt. let p = file-place l f lt in let h = store-here in omega arith)
+
+  pub homes-all : {homes : List ℕ} → Homes l (i .directories) homes → Homes l (index l .directories) homes
+  homes-all t = rw (← index-is) t
 
   pub few : index l .directories ≤ 32
   few = rw (← index-is) (w .directories)
