@@ -1,19 +1,19 @@
 -- Two files that keep their own rules are twins exactly if their keys are equal; so a file keeps its rules if it keeps its own and its
 -- key is not marked.
-use Prim.Native.Nat.{ℕ, _+_, _*_, _/_, _%_, _<_, _≤_}
-use mathlib.Core.Path.{_≡_, sym, ap, _∙_, subst}
+use Prim.Native.Nat.{ℕ, _+_, _/_, _%_, _<_, _≤_}
+use mathlib.Core.Path.{_≡_, refl, sym, ap, _∙_, subst}
 use mathlib.Core.List.{List}
-use mathlib.Core.Bool.{Bool, true, false, _&&_, not}
+use mathlib.Core.Bool.{Bool, true, false, _&&_, _||_, not, true≢false}
+use mathlib.Core.Logic.{_⊎_, inl, inr}
 use native.Mathlib.Omega.{arith}
-use borrow.Author.Tests.{eqb-true, eq-eqb, ltb-true, not-true, not-false}
+use borrow.Author.Tests.{eqb-true, eq-eqb, ltb-true}
 use lib.Dec.{eqb}
 use lib.ListN.{set}
 use Rattle.card.specs.Bytes.{every, none}
 use Rattle.card.specs.Layout.{index, directory, file}
 use Rattle.card.specs.Shelf.{all, within, twinFiles, fileRules}
-use Rattle.card.specs.declared.Directory.{Directory}
 use Rattle.card.specs.declared.Entry.{Entry}
-use Rattle.card.proofs.Tests.{both, joint, same-test, all-at}
+use Rattle.card.proofs.Tests.{both, joint, decided, same-test, all-at}
 use Rattle.shelf_check.specs.Marks.{marked, Adds, Holds}
 use Rattle.shelf_check.specs.Apart.{ownFile, fileKey}
 use Rattle.shelf_check.proofs.Keys.{taken-out, fails, decides, holds-more}
@@ -42,6 +42,11 @@ ownOf l f = ownFile l (file l f)
 
 abbrev pub fileKeys : List ℕ → ℕ → ℕ
 fileKeys l f = fileKey (file l f)
+
+-- a test that must hold and one that must not, with one way out
+passed : (r t : Bool) → (not r || t) ≡ false → r ≡ true
+passed true t h = refl
+passed false t h = absurd (true≢false h)
 
 module _ (l : List ℕ) (some : index l .directories ≤ 32) where
   beside : (a b : Entry) → Housed l a → Housed l b → twinFiles a b ≡ eqb (fileKey a) (fileKey b)
@@ -75,29 +80,36 @@ module _ (l : List ℕ) (some : index l .directories ≤ 32) where
   unfolding fileKey
   file-key e h = let p = housed l e h .home in omega arith
 
-  -- file f, of entry e, whose own rules were found to hold or not
-  module _ (f : ℕ) (e : Entry) (r : Bool) (is : e ≡ file l f) (own : r ≡ ownFile l e) where
-    pub file-fails : not r ≡ true → fileKeeps l f ≡ false
-    file-fails h =
-        fails 65536 (fileKeeps l) (ownOf l) (λ k n. twinFiles (file l k) (file l n)) (fileKeys l)
-        (λ n. file-split l n (file l n)) files-alike f
-        (ap (λ x. ownFile l x) (sym is) ∙ sym own ∙ not-true r h)
+  -- File f, of entry e, whose own rules were found to hold or not, and whose key, cut to what can be marked, was found among the marks
+  -- or not. Where its own rules hold the key was not cut.
+  module _ (f : ℕ) (e : Entry) (r t : Bool) (is : e ≡ file l f) (own : r ≡ ownFile l e) where
+    uncut : (x : ℕ) → r ≡ true → x ≡ fileKey e → x % 8192 ≡ fileKeys l f
+    uncut x h key =
+        let small : fileKey e < 8192 = file-key e (sym own ∙ h) in
+        let low : x % 8192 ≡ fileKey e = omega arith in
+        low ∙ ap (λ y. fileKey y) is
 
-    -- and whose key was found among the marks or not
-    pub file-decides : {m : List ℕ} (x : ℕ) (t : Bool) → f < 65536 → every f (fileKeeps l) ≡ true → not r ≡ false → Holds m (fileKeys l) f
-        → x ≡ fileKey e → t ≡ marked m x
-        → fileKeeps l f ≡ not t
-    file-decides {m} x t few before h held key met =
-        let q : ownFile l (file l f) ≡ true = ap (λ y. ownFile l y) (sym is) ∙ sym own ∙ not-false r h in
-        decides 65536 (fileKeeps l) (ownOf l) (λ k n. twinFiles (file l k) (file l n)) (fileKeys l)
-        (λ n. file-split l n (file l n)) files-alike f few before q (file-key _ q) held
-        ∙ ap (λ y. not (marked m (fileKey y))) (sym is)
-        ∙ ap (λ y. not (marked m y)) (sym key)
-        ∙ ap not (sym met)
+    pub file-decides : {m : List ℕ} (x : ℕ) → f < 65536 → every f (fileKeeps l) ≡ true → Holds m (fileKeys l) f
+        → x ≡ fileKey e → t ≡ marked m (x % 8192)
+        → fileKeeps l f ≡ not (not r || t)
+    file-decides {m} x few before held key met = go (decided r)
+      where
+        mine : ownFile l (file l f) ≡ r
+        mine = ap (λ y. ownFile l y) (sym is) ∙ sym own
 
-    pub file-small : (x : ℕ) → not r ≡ false → x ≡ fileKey e → x < 8192
-    file-small x h key = rw key (file-key e (sym own ∙ not-false r h))
+        go : (r ≡ true) ⊎ (r ≡ false) → fileKeeps l f ≡ not (not r || t)
+        go (inl h) =
+            decides 65536 (fileKeeps l) (ownOf l) (λ k n. twinFiles (file l k) (file l n)) (fileKeys l)
+            (λ n. file-split l n (file l n)) files-alike f few before (mine ∙ h) (file-key _ (mine ∙ h)) held
+            ∙ ap (λ y. not (marked m y)) (sym (uncut x h key))
+            ∙ ap not (sym met)
+            ∙ ap (λ y. not (not y || t)) (sym h)
+        go (inr h) =
+            fails 65536 (fileKeeps l) (ownOf l) (λ k n. twinFiles (file l k) (file l n)) (fileKeys l)
+            (λ n. file-split l n (file l n)) files-alike f (mine ∙ h)
+            ∙ ap (λ y. not (not y || t)) (sym h)
 
-    pub file-holds : {m m′ : List ℕ} (x : ℕ) → Holds m (fileKeys l) f → x ≡ fileKey e → Adds m x m′ → Holds m′ (fileKeys l) (f + 1)
-    file-holds {m} {m′} x held key a =
-        holds-more (fileKeys l) held (subst (λ y. Adds m y m′) (key ∙ ap (λ z. fileKey z) is) a)
+    pub file-holds : {m m′ : List ℕ} (x : ℕ) → (not r || t) ≡ false → Holds m (fileKeys l) f → x ≡ fileKey e → Adds m (x % 8192) m′
+        → Holds m′ (fileKeys l) (f + 1)
+    file-holds {m} {m′} x h held key a =
+        holds-more (fileKeys l) held (subst (λ y. Adds m y m′) (uncut x (passed r t h) key) a)

@@ -3,6 +3,7 @@ pub mod Keys
 pub mod OneEntry
 pub mod Directories
 pub mod Files
+pub mod Homing
 pub mod Sections
 pub mod Fitting
 pub mod Examining

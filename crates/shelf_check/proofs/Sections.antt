@@ -22,6 +22,7 @@ use Rattle.card.proofs.Places.{code-place, directory-place, file-place, section
 use Rattle.card.proofs.Tests.{both, joint, same-test, decided, apart}
 use Rattle.shelf.specs.Reads.{Indexed}
 use Rattle.shelf.proofs.Loops.{every-not}
+use Rattle.shelf_check.specs.Homes.{Homes}
 use Rattle.shelf_check.specs.Whole.{Whole}
 use Rattle.shelf_check.specs.Tallies.{tally}
 use Rattle.shelf_check.specs.declared.check.Tally.{Tally}
@@ -155,6 +156,9 @@ module _ (l : List ℕ) (i : Index) (w : Whole l i) where
   pub file-inside : (f : ℕ) → f < i .files → i .table + 14 * f + 14 ≤ length l
   file-inside = rw index-is (λ f lt. let p = file-place l f lt in let h = store-here in omega arith)
 
+  pub homes-all : {homes : List ℕ} → Homes l (i .directories) homes → Homes l (index l .directories) homes
+  homes-all t = rw (← index-is) t
+
   pub few : index l .directories ≤ 32
   few = rw (← index-is) (w .directories)
 
@@ -177,15 +181,22 @@ module _ (l : List ℕ) (i : Index) (w : Whole l i) where
       let k : index l .files ≤ 200 = rw (← index-is) (w .files) in
       (le-leb _ _ k, le-leb _ _ (sections-here .1 .1))
 
-  pub codes-sound : (k k′ : Code) (r r′ : Bool)
+  codes-by : codesSound l ≡ (all (codeRules 0 (code l 0)) && all (codeRules 1 (code l 1)))
+  unfolding codesSound every all
+  codes-by = simp (codesSound, all, and-true, and-assoc, codes-counted .0, codes-counted .1)
+
+  -- the first code decides, or else the second
+  pub codes-fail : (k : Code) (r : Bool) → k ≡ code l 0 → r ≡ all (codeRules 0 k) → not r ≡ true → false ≡ codesSound l
+  codes-fail k r c d h = rw (codes-by, ← c, ← d, not-true r h)
+
+  pub codes-then : (k k′ : Code) (r r′ : Bool)
       → k ≡ code l 0
       → r ≡ all (codeRules 0 k)
+      → not r ≡ false
       → k′ ≡ code l 1
       → r′ ≡ all (codeRules 1 k′)
-      → (r && r′) ≡ codesSound l
-  unfolding codesSound every all
-  codes-sound k k′ r r′ c d c′ d′ =
-      simp (codesSound, all, and-true, and-assoc, codes-counted .0, codes-counted .1, d, d′, c, c′)
+      → r′ ≡ codesSound l
+  codes-then k k′ r r′ c d h c′ d′ = rw (codes-by, ← c, ← d, not-false r h, ← c′) d′
 
   pub directories-sound : (r : Bool) → r ≡ every (i .directories) (directoryKeeps l) → r ≡ directoriesSound l
   unfolding directoriesSound all

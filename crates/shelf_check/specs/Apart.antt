@@ -1,10 +1,10 @@
 -- What tells an entry from the others of its kind. The first byte of its identifier is fixed by where it stands, so where it keeps its
 -- own rules it is known by the number of its directory, below 32, and the low byte of its identifier.
 use Prim.Native.Nat.{ℕ, _+_, _*_, _%_}
-use mathlib.Core.List.{List, []}
+use mathlib.Core.List.{List, [], _∷_}
 use mathlib.Core.Bool.{Bool, true, false, _&&_}
-use lib.Dec.{eqb}
-use lib.ListN.{take, drop, set}
+use lib.Dec.{eqb, ltb}
+use lib.ListN.{getD, set}
 use Rattle.card.specs.Shelf.{all, directoryRules, fileRules}
 use Rattle.card.specs.declared.Directory.{Directory}
 use Rattle.card.specs.declared.Entry.{Entry}
@@ -20,9 +20,18 @@ ownDirectory l d e = without 6 (directoryRules l d e)
 unfoldable pub ownFile : List ℕ → Entry → Bool
 ownFile l e = without 4 (fileRules l 0 e)
 
--- a file's rules but for where it lies, its structure and twins: no other entry, and nothing of the image, counts there
-unfoldable pub otherRules : Entry → Bool
-otherRules e = all (take 1 (drop 2 (fileRules [] 0 e))) && all (drop 5 (fileRules [] 0 e))
+-- the rules of a list with these numbers hold
+abbrev pub picked : List ℕ → List Bool → Bool
+picked [] bs = true
+picked (k ∷ ks) bs = getD bs k true && picked ks bs
+
+-- Of a file's rules: those by which something is 0, with the number of its directory that an image can have, and those that speak of its
+-- structure. No other entry, and nothing of the image, counts there.
+unfoldable pub zeroRules : Entry → Bool
+zeroRules e = ltb (e .home) 32 && picked (2 ∷ 8 ∷ 9 ∷ []) (fileRules [] 0 e)
+
+unfoldable pub structureRules : Entry → Bool
+structureRules e = picked (1 ∷ 5 ∷ 6 ∷ 7 ∷ 10 ∷ []) (fileRules [] 0 e)
 
 -- The master file stands in no directory. Number 31, which is too high for a parent, stands for that.
 unfoldable pub directoryKey : ℕ → Directory → ℕ

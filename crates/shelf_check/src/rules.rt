@@ -1,11 +1,12 @@
 // The rules of one entry.
 ghost use mathlib.Core.Path.{_≡_};
-ghost use mathlib.Core.Bool.{_&&_};
-ghost use Prim.Native.Nat.{_<_, _/_, _%_};
-ghost use lib.Dec.{eqb, ltb, leb};
-ghost use Rattle.card.specs.Layout.{directory};
+ghost use mathlib.Core.List.{List};
+ghost use Prim.Native.Nat.{ℕ, _<_, _/_, _%_};
+ghost use lib.Dec.{eqb};
+ghost use Rattle.card.specs.Layout.{index, directory};
 ghost use Rattle.card.specs.Shelf.{all, codeRules, below, within, recordsRule};
-ghost use Rattle.shelf_check.specs.Apart.{ownDirectory, ownFile, otherRules, directoryKey, fileKey};
+ghost use Rattle.shelf_check.specs.Apart.{ownDirectory, ownFile, zeroRules, structureRules, directoryKey, fileKey};
+ghost use Rattle.shelf_check.specs.Homes.{Homes};
 ghost use Rattle.shelf_check.specs.Whole.{Whole};
 use card::Code;
 use card::Directory;
@@ -21,7 +22,7 @@ fn below(parent: u16, child: u16) -> bool
 }
 
 // The first byte of a file that stands in a directory.
-fn within(high: u16) -> u16
+pub fn within(high: u16) -> u16
     ensures { λ r. ⌜ r ≡ within high ⌝ }
 {
     if high == 0x3f {
@@ -42,12 +43,12 @@ pub fn code_rules(c: usize, k: Code) -> bool
 }
 
 // The first byte of a directory's identifier.
-fn first_byte(l: &[u8], i: Index, d: u8) -> u16
+pub fn first_byte(l: &[u8], i: Index, d: usize) -> u16
     requires { ⌜ Whole (now l) i ⌝ }
     requires { ⌜ d < i .directories ⌝ }
     ensures { λ r. ⌜ r ≡ directory (now (l .entry)) d .identifier / 256 ⌝ }
 {
-    entries::word(l, i.tree + 8 * (d as usize)) / 256
+    entries::word(l, i.tree + 8 * d) / 256
 }
 
 // Directory d, whose entry is e, but for twins.
@@ -60,10 +61,11 @@ pub fn directory_rules(l: &[u8], i: Index, d: usize, e: Directory) -> bool
     if d == 0 {
         return common & (e.identifier == 0x3f00) & (e.parent == 0);
     }
-    if d <= e.parent as usize {
+    let parent = e.parent as usize;
+    if d <= parent {
         return false;
     }
-    let up = first_byte(l, i, e.parent);
+    let up = first_byte(l, i, parent);
     common & below(up, e.identifier / 256)
 }
 
@@ -95,54 +97,50 @@ fn size_rule(e: Entry) -> bool
     (0 < e.width) & (remainder(size, width) == 0) & (0 < n) & (n < 255)
 }
 
-// Status and access, the same for every file.
-fn status_rules(e: Entry) -> bool
-    ensures { λ r. ⌜ r ≡ ((leb (e .status % 4) 1 && ltb (e .status) 8) && eqb (e .access2 % 16) 0) ⌝ }
+// A byte as a number that more can be added to.
+fn wide(b: u8) -> u32
+    ensures { λ r. ⌜ (r ≡ b) × (r < 256) ⌝ }
 {
-    ((e.status % 4 <= 1) & (e.status < 8)) & (e.access2 % 16 == 0)
+    b as u32
+}
+
+// A sum of what must be 0 in every file, so that one test does for all: the number of its directory above 31, the spare byte, and the
+// bits of status and access that may not be set.
+fn zeros(e: Entry) -> u32
+    ensures { λ r. ⌜ eqb r 0 ≡ zeroRules e ⌝ }
+{
+    let status = wide(e.status);
+    wide(e.home) / 32 + wide(e.spare) + status / 2 % 2 + status / 8 + wide(e.access2) % 16
 }
 
 // A file's other bytes, by its structure.
 fn transparent_rules(e: Entry) -> bool
     requires { ⌜ e .structure ≡ 0 ⌝ }
-    ensures { λ r. ⌜ r ≡ otherRules e ⌝ }
+    ensures { λ r. ⌜ r ≡ structureRules e ⌝ }
 {
-    (e.spare == 0)
-        & ((0 < e.size) & (e.width == 0))
-        & (e.increase == 0)
-        & status_rules(e)
-        & (e.top == 0)
+    (0 < e.size) & (wide(e.width) + wide(e.increase) + wide(e.top) == 0)
 }
 
 fn linear_rules(e: Entry) -> bool
     requires { ⌜ e .structure ≡ 1 ⌝ }
-    ensures { λ r. ⌜ r ≡ otherRules e ⌝ }
+    ensures { λ r. ⌜ r ≡ structureRules e ⌝ }
 {
-    (e.spare == 0) & size_rule(e) & (e.increase == 0) & status_rules(e) & (e.top == 0)
+    size_rule(e) & (wide(e.increase) + wide(e.top) == 0)
 }
 
 fn cyclic_rules(e: Entry) -> bool
     requires { ⌜ e .structure ≡ 3 ⌝ }
-    ensures { λ r. ⌜ r ≡ otherRules e ⌝ }
+    ensures { λ r. ⌜ r ≡ structureRules e ⌝ }
 {
-    (e.spare == 0)
-        & size_rule(e)
+    size_rule(e)
         & ((e.increase == 0) | ((e.increase == 0x40) & (e.width == 3)))
-        & status_rules(e)
         & ((e.top as usize) < records(e))
 }
 
-// A file, whose entry is e, but for twins. Where records have no length nothing is divided.
-pub fn file_rules(l: &[u8], i: Index, e: Entry) -> bool
-    requires { ⌜ Whole (now l) i ⌝ }
-    ensures { λ r. ⌜ r ≡ ownFile (now (l .entry)) e ⌝ }
+// Where records have no length nothing is divided.
+fn structure_rules(e: Entry) -> bool
+    ensures { λ r. ⌜ r ≡ structureRules e ⌝ }
 {
-    if i.directories <= e.home as usize {
-        return false;
-    }
-    if e.identifier / 256 != within(first_byte(l, i, e.home)) {
-        return false;
-    }
     if e.structure == 0 {
         return transparent_rules(e);
     }
@@ -156,6 +154,17 @@ pub fn file_rules(l: &[u8], i: Index, e: Entry) -> bool
         return cyclic_rules(e);
     }
     false
+}
+
+// A file, whose entry is e, but for twins. The table tells what its identifier starts with; a directory that is not there has no byte
+// in it.
+pub fn file_rules(homes: &[u16; 32], e: Entry) -> bool
+    ensures { λ r. ⌜ ((l : List ℕ) → Homes l (index l .directories) (now (homes .entry)) → r ≡ ownFile l e) ⌝ }
+{
+    let home = e.home as usize;
+    let high = e.identifier / 256;
+    let placed = (high == homes[home % 32]) & (zeros(e) == 0);
+    placed & structure_rules(e)
 }
 
 // What tells a file from the others.

@@ -1,7 +1,7 @@
--- `shelf_check::check::codes_sound` meets its contract: one law, from what each call says.
+-- `shelf_check::check::codes_sound` meets its contract: a law for each way out.
 use native.Mathlib.Omega.{arith}
 use Rattle.card.specs.Layout.{code}
-use Rattle.shelf_check.proofs.Sections.{codes-inside, codes-sound}
+use Rattle.shelf_check.proofs.Sections.{codes-inside, codes-fail, codes-then}
 use borrow.Author.Needs.{needs}
 use Rattle.shelf_check.proofs.check.codes_sound.Statement.{statement}
 use Rattle.shelf_check.proofs.check.codes_sound.Tie as tie
@@ -12,18 +12,24 @@ code-requires c κs = search needs
 code-rules-requires : tie.Need-code-rules-requires
 code-rules-requires c κs = search needs
 
+returns : tie.Need-returns
+unfolding code
+returns c = codes-fail _ _ (c .before .before .before .before .pre) _ _ (c .before .before .code .ensures) (c .before .code-rules .ensures) (c .if1 .taken)
+
 add-code : tie.Need-add-code
 add-code c = search needs
 
 code-requires-2 : tie.Need-code-requires-2
-code-requires-2 c κs = let p = codes-inside _ _ (c .before .before .before .pre) in omega arith
+code-requires-2 c κs = let p = codes-inside _ _ (c .before .before .before .before .pre) in omega arith
 
 code-rules-requires-2 : tie.Need-code-rules-requires-2
 code-rules-requires-2 c κs = search needs
 
-returns : tie.Need-returns
+returns-2 : tie.Need-returns-2
 unfolding code
-returns c = codes-sound _ _ (c .before .before .before .before .before .pre) _ _ _ _ (c .before .before .before .code .ensures) (c .before .before .code-rules .ensures) (c .before .code2 .ensures) (c .code-rules2 .ensures)
+returns-2 c =
+    let d = c .before .before in
+    codes-then _ _ (d .before .before .before .before .pre) _ _ _ _ (d .before .before .code .ensures) (d .before .code-rules .ensures) (d .if1 .left) (c .before .code2 .ensures) (c .code-rules2 .ensures)
 
 pub codes-sound-spec : {M : Type 1} → statement M
 codes-sound-spec =
@@ -31,7 +37,8 @@ codes-sound-spec =
     (tie.spec
     code-requires
     code-rules-requires
+    returns
     add-code
     code-requires-2
     code-rules-requires-2
-    returns)
+    returns-2)

@@ -7,9 +7,6 @@ use Rattle.shelf_check.proofs.rules.cyclic_rules.Tie as tie
 size-rule-requires : tie.Need-size-rule-requires
 size-rule-requires c κs = search needs
 
-status-rules-requires : tie.Need-status-rules-requires
-status-rules-requires c κs = search needs
-
 cast-result : tie.Need-cast-result
 cast-result c = search needs
 
@@ -17,9 +14,7 @@ records-requires : tie.Need-records-requires
 records-requires c κs = search needs
 
 returns : tie.Need-returns
-returns c = cyclic-rules _ _ (c .before .before .status-rules .ensures) _ _ (c .before .before .before .before .before .before .before .before .pre) (c .before .before .before .before .before .before .size-rule .ensures) (c .records .ensures)
+returns c = cyclic-rules _ _ _ (c .before .before .before .before .before .before .pre) (c .before .before .before .before .before .size-rule .ensures) (c .records .ensures)
 
 pub cyclic-rules-spec : {M : Type 1} → statement M
-cyclic-rules-spec =
-    tie.close
-    (tie.spec size-rule-requires status-rules-requires cast-result records-requires returns)
+cyclic-rules-spec = tie.close (tie.spec size-rule-requires cast-result records-requires returns)

@@ -7,8 +7,8 @@ use Rattle.shelf_check.proofs.rules.directory_rules.Tie as tie
 returns : tie.Need-returns
 returns c = master-rules _ _ _ (c .before .before .if1 .taken)
 
-cast-if2 : tie.Need-cast-if2
-cast-if2 c = search needs
+cast-parent : tie.Need-cast-parent
+cast-parent c = search needs
 
 returns-2 : tie.Need-returns-2
 returns-2 c = late-parent _ _ _ (c .before .before .if1 .left) (c .if2 .taken)
@@ -24,4 +24,4 @@ returns-3 c = directory-rules _ _ _ _ _ (c .before .before .before .before .befo
 
 pub directory-rules-spec : {M : Type 1} → statement M
 directory-rules-spec =
-    tie.close (tie.spec returns cast-if2 returns-2 first-byte-requires below-requires returns-3)
+    tie.close (tie.spec returns cast-parent returns-2 first-byte-requires below-requires returns-3)
