@@ -106,7 +106,7 @@ module _ {l : List ℕ} {s : Session} {f : ℕ} {p : Place} (h : Here l s f p) w
       (all-at (fileRules l f (p .entry)) rules 10)
       (rw entry-is (points-within (h .spotted .ready) f (h .spotted .current)))
 
-  -- the same of a command that goes by the file's bytes too
+  -- an effect on file f, of a command that goes by the file's bytes too
   pub carried : {A : Type 0} (leave : List ℕ → List ℕ → ℕ → A → card.Effect) (command : Rights → Entry → List ℕ → A) {t : Reply}
       {image was is : List ℕ}
       → Leaves (leave (head l) (opened l (s .current)) f (command (p .rights) (p .entry) lent)) l s t image was is

@@ -1,4 +1,5 @@
--- An image in which the current file's bytes and a byte of its entry are written: by the code's places and by the definition's.
+-- An image in which a byte of the current file's entry is written, alone or after the file's bytes: by the code's places and by the
+-- definition's.
 use Prim.Native.Nat.{ℕ, _+_, _≤_, _<_}
 use mathlib.Core.Path.{_≡_, refl, sym, ap, _∙_}
 use mathlib.Core.List.{List}
@@ -43,7 +44,7 @@ module _ {l : List ℕ} {s : Session} {f : ℕ} {p : Site} (h : Spotted l s f p)
       ∙ ap (λ (y : List ℕ). headed x (set y at v)) same
       ∙ ap (λ (i : Index). headed x (set (head l) (fileAt i f + k) v)) (sym (index-head l))
 
-  -- written in the image, whose file stays
+  -- written in the image, and nothing else
   pub entered : (v : ℕ)
       → set l (p .at + k) v
       ≡ headed (filled l (s .current) (opened l (s .current))) (set (head l) (fileAt (index (head l)) f + k) v)

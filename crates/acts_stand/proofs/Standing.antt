@@ -83,7 +83,7 @@ module _ {l : List ℕ} {s : Session} (r : Ready l s) (f : ℕ) (c : s .current 
   pub entry-inside : (i : Index) → i ≡ index l → i .table + 14 * f + 14 ≤ length l
   entry-inside i is = rw is (file-inside l (card.image l (r .image)) f among)
 
-  -- what was read of the current file
+  -- what was read of the current file's entry
   pub spotted : (i : Index) → i ≡ index l → (rights′ : Rights) (e : Entry)
       → rights′ ≡ rights l s
       → e ≡ fileEntry l (i .table + 14 * f)
@@ -98,7 +98,7 @@ module _ {l : List ℕ} {s : Session} (r : Ready l s) (f : ℕ) (c : s .current 
         inside = entry-inside i is;
       }
 
--- and where its bytes start and end
+-- what was read of the current file, with the place of its bytes
 pub here : {l : List ℕ} {s : Session} {f : ℕ} {p : Site} → Spotted l s f p → (start′ size : ℕ)
     → start′ ≡ start l f
     → size ≡ p .entry .size
