@@ -20,6 +20,7 @@ use Rattle.card.specs.Images.{Image}
 use Rattle.card.proofs.Images.{image}
 use Rattle.card.proofs.Places.{code-place, directory-place, file-place, sections-place, store-inside}
 use Rattle.card.proofs.Tests.{both, joint, same-test, decided, apart}
+use Rattle.shelf.proofs.Heading.{file-read as entry-read}
 use Rattle.shelf.specs.Reads.{Indexed}
 use Rattle.shelf.proofs.Loops.{every-not}
 use Rattle.shelf_check.specs.Homes.{Homes}
@@ -137,8 +138,7 @@ module _ (l : List ℕ) (i : Index) (w : Whole l i) where
   directory-read d e h = h ∙ ap (λ (x : Index). directoryEntry l (x .tree + 8 * d)) index-is
 
   pub file-read : (f : ℕ) (e : Entry) → e ≡ fileEntry l (i .table + 14 * f) → e ≡ file l f
-  unfolding file
-  file-read f e h = h ∙ ap (λ (x : Index). fileEntry l (x .table + 14 * f)) index-is
+  file-read = entry-read l i index-is
 
   pub codes-inside : 42 ≤ length l
   codes-inside =
