@@ -12,11 +12,11 @@ use Rattle.card.specs.Forms.{formOf, codeNumber, exactly}
 use Rattle.card.specs.Layout.{index, head}
 use Rattle.card.specs.Sessions.{fits, padded, stands}
 use Rattle.card.specs.declared.Instruction.{Instruction}
-use Rattle.card.specs.declared.Instruction.the-variants.{Status, Increase, Verify, Change, Disable, Enable, Unblock}
+use Rattle.card.specs.declared.Instruction.the-variants.{Status, Seek, Increase, Verify, Change, Disable, Enable, Unblock}
 use Rattle.card.specs.declared.Session.{Session}
 use Rattle.card.proofs.Tests.{both}
 use Rattle.acts.specs.Ready.{Ready}
-use Rattle.forms.proofs.Lengths.{exact, within, numbered, following}
+use Rattle.forms.proofs.Lengths.{exact, within, numbered, typed, following}
 use Rattle.acting.specs.Right.{Right}
 
 module _ {i : Instruction} {p q n : ℕ} {d : List ℕ} (r : Right i p q n d) where
@@ -36,6 +36,9 @@ module _ {i : Instruction} {p q n : ℕ} {d : List ℕ} (r : Right i p q n d) wh
       go : (q ≡ 1) ⊎ (q ≡ 2) → (1 ≤ q) × (q - 1 < 2)
       go (inl h) = (omega arith, omega arith)
       go (inr h) = (omega arith, omega arith)
+
+  pub seeks : i ≡ Seek → q / 16 < 2
+  seeks e = typed Seek p q n (turned Seek e .form) refl
 
   pub verifies : i ≡ Verify → (1 ≤ q) × ((q - 1 < 2) × (length d ≡ 8))
   verifies e = let c = named Verify e refl in (c .0, (c .1, sized Verify 8 0x6708 e refl refl refl))

@@ -6,7 +6,7 @@ use card::Session;
 use commands::answers::Reply;
 use commands::answers::refusal;
 ghost use mathlib.Core.List.{List};
-ghost use Prim.Native.Nat.{ℕ, _≤_};
+ghost use Prim.Native.Nat.{ℕ, _/_, _≤_, _<_};
 ghost use lib.ListN.{length};
 ghost use Rattle.card.specs.Binary.{readBinary};
 ghost use Rattle.card.specs.Records.{readRecord};
@@ -65,6 +65,7 @@ pub fn read_record(
 // The first record in a direction that starts with the pattern. Only this player's crates call it.
 pub fn seek_record(image: &[u8], s: Session, mode: usize, pattern: &[u8]) -> Reply
     requires { ⌜ Ready (now image) s ⌝ }
+    requires { ⌜ mode / 16 < 2 ⌝ }
     ensures { λ t. ⌜ ((room : List ℕ) → Reads (λ r e b. seekRecord r e b s mode (now (pattern .entry))) (now (image .entry)) s t room room) ⌝ }
 {
     let current = s.current;

@@ -1,32 +1,55 @@
 -- SELECT and STATUS on an image whose head was lent as its first bytes.
 use Prim.Native.Nat.{ℕ, _+_, _*_, _≤_, _<_}
-use mathlib.Core.Path.{_≡_, ap}
-use mathlib.Core.List.{List}
-use mathlib.Core.Bool.{true}
+use mathlib.Core.Path.{_≡_, refl, ap, subst, _∙_}
+use mathlib.Core.List.{List, [], _++_}
+use mathlib.Core.Bool.{true, false}
 use native.Mathlib.Omega.{arith}
-use lib.ListN.{take}
-use borrow.Author.Tests.{ltb-true}
+use lib.Dec.{ltb}
+use lib.ListN.{length, take, replicate}
+use borrow.Author.Tests.{ltb-true, lt-ltb, le-ltb}
 use Rattle.card.specs.Answers as card
-use Rattle.card.specs.Layout.{index, fileEntry, head}
-use Rattle.card.specs.Select.{findDirectory, findFile, directoryResponse, fileResponse, select, tellStatus}
-use Rattle.card.specs.Sessions.{fits}
+use Rattle.card.specs.Layout.{index, file, fileEntry, head}
+use Rattle.card.specs.Select.{findDirectory, findFile, directoryResponse, fileResponse, firstPointer, select, tellStatus}
+use Rattle.card.specs.Sessions.{fits, waits, enters}
+use Rattle.card.specs.declared.Current.the-variants.{Nothing, File}
 use Rattle.card.specs.declared.Entry.{Entry}
 use Rattle.card.specs.declared.Index.{Index}
+use Rattle.card.specs.declared.Pointer.{Pointer}
+use Rattle.card.specs.declared.Pointer.the-variants.{Undefined}
 use Rattle.card.specs.declared.Session.{Session}
 use Rattle.card.proofs.Tests.{both}
-use Rattle.commands.specs.Gives.{Gives, Says}
+use Rattle.access.proofs.Refusals.{indeed, otherwise}
+use Rattle.commands.specs.Gives.{brief, Gives, Says}
 use Rattle.commands.specs.declared.answers.Reply.{Reply}
-use Rattle.commands_select.specs.Finds.{Leads, Strays, Names, Misses}
 use Rattle.shelf.specs.Reads.{Head}
 use Rattle.shelf.proofs.Heading.{head-of, file-read}
 use Rattle.acts.specs.Leaves.{Tells}
 use Rattle.acts.specs.Ready.{Ready}
 use Rattle.acts.proofs.Kept.{tells, quiet}
+use Rattle.acts_select.specs.Finds.{foundDirectory, foundFile}
+use Rattle.acts_select.specs.declared.Found.{Found}
 
 -- a session that fits has a directory that exists
 within : (h : List ℕ) (s : Session) → fits h s ≡ true → s .directory < index h .directories
 unfolding fits
 within h s e = ltb-true _ _ (both _ _ (both _ _ e .0) .0)
+
+-- a file that was found, by its entry
+pub fileFound : (h : List ℕ) (i : Index) (d f : ℕ) (e : Entry) (p : Pointer) (b : List ℕ) → i ≡ index h → e ≡ fileEntry h (i .table + 14 * f)
+    → p ≡ firstPointer e
+    → b ≡ fileResponse e ++ replicate 7 0
+    → record { directory = d; current = File f; pointer = p; told = b; count = 15 } ≡ foundFile h d f
+unfolding foundFile
+fileFound h i d f e p b is x q m = rw (m, q, file-read h i is f e x)
+
+-- no more bytes tell of what was found than there are
+pub fewDirectory : (h : List ℕ) (d : ℕ) (x : Found) → x ≡ foundDirectory h d → (x .count ≤ length (x .told)) × (x .count ≤ 22)
+unfolding foundDirectory directoryResponse
+fewDirectory h d x e = rw e (omega arith, omega arith)
+
+pub fewFile : (h : List ℕ) (d f : ℕ) (x : Found) → x ≡ foundFile h d f → (x .count ≤ length (x .told)) × (x .count ≤ 22)
+unfolding foundFile fileResponse
+fewFile h d f x e = rw e (omega arith, omega arith)
 
 module _ {l : List ℕ} {s : Session} (r : Ready l s) (i : Index) (is : i ≡ index l) where
   lent : take (i .store) l ≡ head l
@@ -54,34 +77,56 @@ module _ {l : List ℕ} {s : Session} (r : Ready l s) (i : Index) (is : i ≡ in
   silently command t g room = tells r (command (head l)) t room room (quiet (rw lent at g) room)
 
   -- SELECT finds a directory, a file, or nothing
-  pub toDirectory : (id d : ℕ) (bytes : List ℕ) (t : Reply) → d ≡ findDirectory (take (i .store) l) (s .directory) id → d < i .directories
-      → bytes ≡ directoryResponse (take (i .store) l) d
-      → ((h : List ℕ) (id : ℕ) → Leads h s id d bytes → Says (select h s id) t)
-      → (room : List ℕ) → Tells (select (head l) s id) l s t room room
-  toDirectory id d bytes t e n b says =
-      silently (λ h. select h s id) t
-      (says (take (i .store) l) id (record { found = e; inside = omega (arith, directories); told = b }))
+  abbrev seen : List ℕ
+  seen = take (i .store) l
 
-  strays : (id d : ℕ) → d ≡ findDirectory (take (i .store) l) (s .directory) id → i .directories ≤ d → Strays (take (i .store) l) s id
-  strays id d e n = record { outside = omega (arith, directories) }
+  abbrev entered : Found → card.Reply
+  entered x =
+      let b = take (x .count) (x .told) in
+      card.reply [] (0x9f00 + length b) (waits b (enters (x .directory) (x .current) (x .pointer) s))
 
-  pub toFile : (id d f : ℕ) (x : Entry) (bytes : List ℕ) (t : Reply) → d ≡ findDirectory (take (i .store) l) (s .directory) id → i .directories ≤ d
-      → f ≡ findFile (take (i .store) l) (s .directory) id → f < i .files
-      → x ≡ fileEntry (take (i .store) l) (i .table + 14 * f)
-      → bytes ≡ fileResponse x
-      → ((h : List ℕ) (id : ℕ) → Names h s id f x bytes → Says (select h s id) t)
+  pub toDirectory : (id d : ℕ) (x : Found) (t : Reply) → d ≡ findDirectory seen (s .directory) id → d < i .directories
+      → x ≡ foundDirectory seen d
+      → t ≡ brief (entered x)
       → (room : List ℕ) → Tells (select (head l) s id) l s t room room
-  toFile id d f x bytes t e n g m q b says =
+  unfolding select foundDirectory directoryResponse
+  toDirectory id d x t e n b q =
       silently (λ h. select h s id) t
-      (says (take (i .store) l) id (record { strays = strays id d e n; found = g; inside = omega (arith, files); entry = file-read (take (i .store) l) i known f x q; told = b }))
+      (subst (λ (r : card.Reply). Says r t)
+      (ap entered b
+      ∙ ap (λ (d : ℕ). card.reply [] 0x9f16 (waits (directoryResponse seen d) (enters d Nothing Undefined s))) e
+      ∙ indeed _ _ _ (lt-ltb (findDirectory seen (s .directory) id) (index seen .directories) (omega (arith, directories, e))))
+      (record { reply = q; silent = refl }))
 
-  pub toNothing : (id d f : ℕ) (t : Reply) → d ≡ findDirectory (take (i .store) l) (s .directory) id → i .directories ≤ d
-      → f ≡ findFile (take (i .store) l) (s .directory) id → i .files ≤ f
-      → ((h : List ℕ) (id : ℕ) → Misses h s id → Says (select h s id) t)
+  strays : (id d : ℕ) → d ≡ findDirectory seen (s .directory) id → i .directories ≤ d
+      → ltb (findDirectory seen (s .directory) id) (index seen .directories) ≡ false
+  strays id d e n = le-ltb (findDirectory seen (s .directory) id) (index seen .directories) (omega (arith, directories, e))
+
+  pub toFile : (id d f : ℕ) (x : Found) (t : Reply) → d ≡ findDirectory seen (s .directory) id → i .directories ≤ d
+      → f ≡ findFile seen (s .directory) id → f < i .files
+      → x ≡ foundFile seen (s .directory) f
+      → t ≡ brief (entered x)
       → (room : List ℕ) → Tells (select (head l) s id) l s t room room
-  toNothing id d f t e n g m says =
+  unfolding select foundFile fileResponse
+  toFile id d f x t e n g m b q =
       silently (λ h. select h s id) t
-      (says (take (i .store) l) id (record { strays = strays id d e n; outside = omega (arith, files) }))
+      (subst (λ (r : card.Reply). Says r t)
+      (ap entered b
+      ∙ ap (λ (f : ℕ). card.reply [] 0x9f0f (waits (fileResponse (file seen f)) (enters (s .directory) (File f) (firstPointer (file seen f)) s))) g
+      ∙ indeed _ _ _ (lt-ltb (findFile seen (s .directory) id) (index seen .files) (omega (arith, files, g)))
+      ∙ otherwise _ _ _ (strays id d e n))
+      (record { reply = q; silent = refl }))
+
+  pub toNothing : (id d f : ℕ) (t : Reply) → d ≡ findDirectory seen (s .directory) id → i .directories ≤ d
+      → f ≡ findFile seen (s .directory) id → i .files ≤ f
+      → t ≡ brief (card.refusal s 0x9404)
+      → (room : List ℕ) → Tells (select (head l) s id) l s t room room
+  unfolding select
+  toNothing id d f t e n g m q =
+      silently (λ h. select h s id) t
+      (subst (λ (r : card.Reply). Says r t)
+      (otherwise _ _ _ (le-ltb (findFile seen (s .directory) id) (index seen .files) (omega (arith, files, g))) ∙ otherwise _ _ _ (strays id d e n))
+      (record { reply = q; silent = refl }))
 
   -- STATUS, by the bytes on the current directory
   pub status : (n : ℕ) (bytes was now : List ℕ) (t : Reply) → bytes ≡ directoryResponse (take (i .store) l) (s .directory)

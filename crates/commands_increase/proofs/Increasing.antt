@@ -4,7 +4,8 @@ use mathlib.Core.Path.{_≡_, refl, sym, ap, _∙_}
 use mathlib.Core.List.{List, [], _∷_, _++_}
 use mathlib.Core.Bool.{true, false}
 use native.Mathlib.Omega.{arith}
-use lib.ListN.{length, getD}
+use lib.ListN.{length, getD, take}
+use lib.Seq.{take-length}
 use borrow.Author.Tests.{lt-ltb, le-ltb, not-false}
 use Rattle.card.specs.Bytes.{splice}
 use Rattle.card.specs.Layout.{counter, records}
@@ -34,6 +35,12 @@ sixfold (x ∷ []) d n e h = absurd (omega (arith, h))
 sixfold (x ∷ y ∷ []) d n e h = absurd (omega (arith, h))
 sixfold (x ∷ y ∷ z ∷ []) d n e h = simp e
 sixfold (x ∷ y ∷ z ∷ v ∷ l) d n e h = absurd (omega (arith, h))
+
+-- all six of them
+pub allSix : (v n : ℕ) (added told : List ℕ) → told ≡ amountBytes v ++ added → length added ≡ 3 → n ≡ 6 → take n told ≡ amountBytes v ++ added
+allSix v n added told e h k =
+    let q : n ≡ length (amountBytes v ++ added) = omega (arith, h, k) in
+    rw (e, q) (take-length (amountBytes v ++ added))
 
 -- a file that INCREASE may count on has records of three bytes
 pub countable : (r : Rights) (e : Entry) (b added : List ℕ) (p : Pointer) (w : ℕ) → Stands e b p → Counts e added

@@ -70,6 +70,8 @@ pub fn increase_by(r: Rights, e: Entry, b: &mut [u8], s: Session, added: &[u8]) 
     let new = amount_bytes(sum);
     let top = push(e, b, &new);
     let told = six(sum, added);
-    let reply = silent(waits(&told, points(Pointer::At(1), s)), 0x9f06);
+    // the record and what was added
+    let n = wide(e.width) + 3;
+    let reply = silent(waits(&told[..n], points(Pointer::At(1), s)), 0x9f06);
     Written { reply, top }
 }

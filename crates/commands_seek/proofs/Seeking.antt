@@ -6,7 +6,7 @@ use mathlib.Core.Bool.{Bool, true, false}
 use native.Mathlib.Omega.{arith}
 use native.Mathlib.Nat.{suc-mul, le-trans, mul-le-mul-right}
 use lib.Dec.{eqb, ltb}
-use lib.ListN.{length, getD}
+use lib.ListN.{length, getD, take}
 use borrow.Author.Tests.{eq-eqb, ne-eqb, lt-ltb, le-ltb, eqb-true, not-false}
 use Rattle.card.specs.Bytes.{firstFrom, find, same, part}
 use Rattle.card.specs.Seek.{matches, forward, backward, after, before, sought, seekRecord}
@@ -169,25 +169,29 @@ module _ (r : Rights) (e : Entry) (b : List ℕ) (s : Session) (mode w : ℕ) (p
       nothing ∙ passing _ 0x9404 [] (ne-eqb _ _ (λ p. o (q ∙ p))) ∙ passing _ (0x6700 + e .width) _ (le-ltb _ _ l)
       ∙ sharedNone r e Seek (linear e) _ w found z
 
-  pub pointed : (k : ℕ) → w ≡ 0 → length pattern ≤ e .width → k ≡ reach → (k ≡ 0 → ⊥) → mode / 16 ≡ 0
-      → t ≡ brief (reply [] 0x9000 (points (At k) (dropped s)))
+  -- as many bytes wait as the type says
+  abbrev wait : ℕ → ℕ → Reply
+  wait k v = reply [] v (waits (take (mode / 16) (k ∷ [])) (points (At k) s))
+
+  pub pointed : (k v : ℕ) → w ≡ 0 → length pattern ≤ e .width → k ≡ reach → (k ≡ 0 → ⊥) → mode / 16 ≡ 0 → v ≡ 0x9000 → t ≡ brief (wait k v)
       → Says (seekRecord r e b s mode pattern) t
   unfolding seekRecord
-  pointed k z l q o h p =
+  pointed k v z l q o h i p =
       said _ s _ 0 (matched k z l q o) t refl
       (subst (λ (d : Reply). Says d t)
       (ap (λ (k : ℕ). reply [] 0x9000 (points (At k) (dropped s))) q ∙ indeed (eqb (mode / 16) 0) _ _ (eq-eqb _ _ h))
-      (record { reply = p; silent = refl }))
+      (record { reply = p ∙ simp (h, i); silent = refl }))
 
-  pub told : (k : ℕ) → w ≡ 0 → length pattern ≤ e .width → k ≡ reach → (k ≡ 0 → ⊥) → (mode / 16 ≡ 0 → ⊥)
-      → t ≡ brief (reply [] 0x9f01 (waits (k ∷ []) (points (At k) s)))
+  pub told : (k v : ℕ) → w ≡ 0 → length pattern ≤ e .width → k ≡ reach → (k ≡ 0 → ⊥) → (mode / 16 ≡ 0 → ⊥) → mode / 16 < 2 → v ≡ 0x9f01
+      → t ≡ brief (wait k v)
       → Says (seekRecord r e b s mode pattern) t
   unfolding seekRecord
-  told k z l q o h p =
+  told k v z l q o h u i p =
+      let j : mode / 16 ≡ 1 = omega arith in
       said _ s _ 0 (matched k z l q o) t refl
       (subst (λ (d : Reply). Says d t)
       (ap (λ (k : ℕ). reply [] 0x9f01 (waits (k ∷ []) (points (At k) s))) q ∙ otherwise (eqb (mode / 16) 0) _ _ (ne-eqb _ _ h))
-      (record { reply = p; silent = refl }))
+      (record { reply = p ∙ simp (j, i); silent = refl }))
 
 -- a file that SEEK may search has records
 pub searched : (r : Rights) (e : Entry) (b : List ℕ) (p : Pointer) (w : ℕ) → Stands e b p → w ≡ first (shared r e Seek (linear e) []) → w ≡ 0

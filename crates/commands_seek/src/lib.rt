@@ -12,11 +12,10 @@ use commands::answers::silent;
 use entries::records;
 use parts::low;
 use parts::wide;
-use sessions::dropped;
 use sessions::points;
-use sessions::waits_one;
+use sessions::waits;
 ghost use mathlib.Core.Path.{_≡_};
-ghost use Prim.Native.Nat.{ℕ, _+_, _*_, _≤_, _<_};
+ghost use Prim.Native.Nat.{ℕ, _+_, _*_, _/_, _≤_, _<_};
 ghost use lib.ListN.{length};
 ghost use Rattle.card.specs.Bytes.{find};
 ghost use Rattle.card.specs.Layout.{transparent, records};
@@ -116,6 +115,7 @@ fn sought(b: &[u8], m: usize, n: usize, pattern: &[u8], mode: usize, p: Pointer)
 // SEEK. Only this player's crates call it.
 pub fn seek_record(r: Rights, e: Entry, b: &[u8], s: Session, mode: usize, pattern: &[u8]) -> Reply
     requires { ⌜ Stands e (now b) (s .pointer) ⌝ }
+    requires { ⌜ mode / 16 < 2 ⌝ }
     ensures { λ t. ⌜ Says (seekRecord r e (now (b .entry)) s mode (now (pattern .entry))) t ⌝ }
 {
     let word = shared(r, e, Act::Seek, e.structure == 1);
@@ -131,8 +131,9 @@ pub fn seek_record(r: Rights, e: Entry, b: &[u8], s: Session, mode: usize, patte
     if k == 0 {
         return refusal(s, 0x9404);
     }
-    if mode / 16 == 0 {
-        return silent(points(Pointer::At(k), dropped(s)), 0x9000);
-    }
-    silent(waits_one(k as u8, points(Pointer::At(k), s)), 0x9f01)
+    // as many bytes tell the record as the type says
+    let n = mode / 16;
+    let number = [k as u8];
+    let word = if n == 0 { 0x9000 } else { 0x9f01 };
+    silent(waits(&number[..n], points(Pointer::At(k), s)), word)
 }

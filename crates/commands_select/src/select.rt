@@ -1,6 +1,5 @@
 // SELECT, STATUS and GET RESPONSE, by what was found and the bytes that tell of it.
 use card::Current;
-use card::Entry;
 use card::Pointer;
 use card::Session;
 use commands::answers::Reply;
@@ -11,12 +10,13 @@ use sessions::dropped;
 use sessions::enters;
 use sessions::waits;
 ghost use mathlib.Core.Path.{_≡_};
-ghost use mathlib.Core.List.{List};
-ghost use Prim.Native.Nat.{ℕ, _≤_};
+ghost use mathlib.Core.List.{List, []};
+ghost use Prim.Native.Nat.{ℕ, _+_, _≤_};
 ghost use lib.ListN.{length};
-ghost use Rattle.card.specs.Select.{directoryResponse, firstPointer, select, tellStatus, getResponse};
-ghost use Rattle.commands.specs.Gives.{Gives, Says};
-ghost use Rattle.commands_select.specs.Finds.{Leads, Names, Misses};
+ghost use Rattle.card.specs.Answers.{reply};
+ghost use Rattle.card.specs.Select.{directoryResponse, tellStatus, getResponse};
+ghost use Rattle.card.specs.Sessions.{waits, enters};
+ghost use Rattle.commands.specs.Gives.{brief, Gives};
 
 // What waits is told, as many bytes as are asked; 67 leaves it. Only this player's crates call it.
 pub fn get_response(s: Session, n: usize, room: &mut [u8]) -> Reply
@@ -54,38 +54,10 @@ pub fn tell_status(told: [u8; 22], s: Session, n: usize, room: &mut [u8]) -> Rep
     }
 }
 
-// The pointer of a file just selected.
-fn first_pointer(e: Entry) -> Pointer
-    ensures { λ p. ⌜ p ≡ firstPointer e ⌝ }
+// What SELECT found is entered, and these bytes on it wait. Only this player's crates call it.
+pub fn selected(d: usize, c: Current, p: Pointer, told: &[u8], s: Session) -> Reply
+    requires { ⌜ length (now told) ≤ 22 ⌝ }
+    ensures { λ t. ⌜ t ≡ brief (reply [] (0x9f00 + length (now (told .entry))) (waits (now (told .entry)) (enters d c p s))) ⌝ }
 {
-    if e.structure == 3 {
-        return Pointer::At(1);
-    }
-    Pointer::Undefined
-}
-
-// An identifier leads to a directory.
-pub fn select_directory(d: usize, told: [u8; 22], s: Session) -> Reply
-    ensures { λ t. ⌜ ((h : List ℕ) (id : ℕ) → Leads h s id d told → Says (select h s id) t) ⌝ }
-{
-    silent(
-        waits(&told, enters(d, Current::Nothing, Pointer::Undefined, s)),
-        0x9f16,
-    )
-}
-
-// An identifier leads to no directory and names a file.
-pub fn select_file(f: usize, e: Entry, told: [u8; 15], s: Session) -> Reply
-    ensures { λ t. ⌜ ((h : List ℕ) (id : ℕ) → Names h s id f e told → Says (select h s id) t) ⌝ }
-{
-    let pointer = first_pointer(e);
-    let session = enters(s.directory, Current::File(f), pointer, s);
-    silent(waits(&told, session), 0x9f0f)
-}
-
-// An identifier leads to nothing.
-pub fn select_nothing(s: Session) -> Reply
-    ensures { λ t. ⌜ ((h : List ℕ) (id : ℕ) → Misses h s id → Says (select h s id) t) ⌝ }
-{
-    refusal(s, 0x9404)
+    silent(waits(told, enters(d, c, p, s)), 0x9f00 + told.len() as u16)
 }

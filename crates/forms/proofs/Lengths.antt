@@ -1,14 +1,14 @@
--- Where no refusal of form holds, P3 and the number of a code are those that the command takes.
-use Prim.Native.Nat.{ℕ, _≤_, _<_}
+-- Where no refusal of form holds, P3, the number of a code and the type of SEEK are those that the command takes.
+use Prim.Native.Nat.{ℕ, _/_, _≤_, _<_}
 use mathlib.Core.Path.{_≡_, refl, sym, ap, _∙_}
 use mathlib.Core.List.{[], _∷_}
-use mathlib.Core.Bool.{Bool, true, false, _||_, not, false≢true}
+use mathlib.Core.Bool.{Bool, true, false, _&&_, _||_, not, false≢true}
 use mathlib.Core.Logic.{_⊎_, inl, inr}
 use native.Mathlib.Omega.{arith}
-use lib.Dec.{eqb}
-use borrow.Author.Tests.{eqb-true, eqb-false, ltb-false}
+use lib.Dec.{eqb, ltb}
+use borrow.Author.Tests.{eqb-true, eqb-false, ltb-true, ltb-false}
 use Rattle.card.specs.Answers.{Refusal, first, _says_}
-use Rattle.card.specs.Forms.{formOf, formed, sent, codeNumber, exactly, upTo}
+use Rattle.card.specs.Forms.{formOf, formed, sent, seekMode, codeNumber, exactly, upTo}
 use Rattle.card.specs.declared.Instruction.{Instruction}
 use Rattle.card.proofs.Tests.{both, one-of}
 use Rattle.access.proofs.Refusals.{indeed}
@@ -60,6 +60,11 @@ module _ (i : Instruction) (p q n : ℕ) (h : first (formed i p q n) ≡ 0) wher
       go : (eqb q a ≡ true) ⊎ (eqb q b ≡ true) → (q ≡ a) ⊎ (q ≡ b)
       go (inl x) = inl (eqb-true q a x)
       go (inr x) = inr (eqb-true q b x)
+
+  -- the type of SEEK
+  pub typed : formOf i .p1p2 ≡ seekMode → q / 16 < 2
+  typed e =
+      ltb-true (q / 16) 2 (both (eqb p 0) _ (both (eqb p 0 && ltb (q / 16) 2) _ (ap (λ (f : ℕ → ℕ → Bool). f p q) (sym e) ∙ parameters) .0) .1)
 
   -- how many bytes follow, where they are as many as are sent
   pub following : (d k : ℕ) → formOf i .sends ≡ true → d ≡ sent i n → n ≡ k → d ≡ k

@@ -20,34 +20,25 @@ struct Lap {
     session: Session,
 }
 
-// Plays one command and adds up its answer.
-fn step(known: bool, image: &mut [u8], lap: Lap, command: &[u8], room: &mut [u8]) -> Lap
-    requires { ⌜ (known ≡ true → Ready (now image) (lap .session)) ⌝ }
-    ensures { λ t. ⌜ (known ≡ true → Ready (now (image .exit)) (t .session)) ⌝ }
-{
-    let session = lap.session;
-    let played = runs::play_on(known, image, session, command, room);
-    let answer = played.answer;
-    let count = played.count;
-    let sum = sums::with_answer(lap.sum, answer, &room[..count]);
-    let session = played.session;
-    Lap { sum, session }
-}
-
 // Plays the whole list once.
 fn play_list(known: bool, image: &mut [u8], lap: Lap, list: &[u8], room: &mut [u8]) -> Lap
     requires { ⌜ (known ≡ true → Ready (now image) (lap .session)) ⌝ }
 {
-    let mut t = lap;
+    let mut session = lap.session;
+    let mut sum = lap.sum;
     let mut at = 0;
     while at < list.len() {
         let s = list::command_at(list, at);
         let from = s.from;
         let end = s.end;
-        t = step(known, image, t, &list[from..end], room);
+        let played = runs::play_on(known, image, session, &list[from..end], room);
+        let answer = played.answer;
+        let count = played.count;
+        sum = sums::with_answer(sum, answer, &room[..count]);
+        session = played.session;
         at = end;
     }
-    t
+    Lap { sum, session }
 }
 
 // Whether a lap's commands may rely on a test at its start.

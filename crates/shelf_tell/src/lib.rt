@@ -1,7 +1,8 @@
 // What SELECT and STATUS tell of a directory and of a file.
 ghost use mathlib.Core.Path.{_≡_};
+ghost use mathlib.Core.List.{_++_};
 ghost use Prim.Native.Nat.{_+_, _*_, _<_, _≤_, _/_, _%_};
-ghost use lib.ListN.{length};
+ghost use lib.ListN.{length, replicate};
 ghost use Rattle.card.specs.Bytes.{bit};
 ghost use Rattle.card.specs.Layout.{disabled, file};
 ghost use Rattle.card.specs.Select.{b8, codeStatus, unblockStatus, child, children, member, members, directoryType, directoryResponse, fileResponse};
@@ -30,9 +31,9 @@ fn low(w: u16) -> u8
     (w % 256) as u8
 }
 
-// The 15 bytes on a file.
-pub fn file_response(e: Entry) -> [u8; 15]
-    ensures { λ r. ⌜ r ≡ fileResponse e ⌝ }
+// The 15 bytes on a file, and zeros after them.
+pub fn file_response(e: Entry) -> [u8; 22]
+    ensures { λ r. ⌜ r ≡ fileResponse e ++ replicate 7 0 ⌝ }
 {
     [
         0,
@@ -50,6 +51,13 @@ pub fn file_response(e: Entry) -> [u8; 15]
         2,
         e.structure,
         e.width,
+        0,
+        0,
+        0,
+        0,
+        0,
+        0,
+        0,
     ]
 }
 

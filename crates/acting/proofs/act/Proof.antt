@@ -14,7 +14,7 @@ use Rattle.card.specs.declared.Session.{Session}
 use Rattle.commands.specs.Gives.{brief}
 use Rattle.acts.proofs.Kept.{tells}
 use Rattle.acting.proofs.Choices.{chosen, selects, asMany, alone}
-use Rattle.acting.proofs.Taking.{verifies, changes, disables, enables, unblocks, increases, asks, waiting}
+use Rattle.acting.proofs.Taking.{seeks, verifies, changes, disables, enables, unblocks, increases, asks, waiting}
 use Rattle.acting.proofs.act.Statement.{statement}
 use Rattle.acting.proofs.act.Tie as tie
 
@@ -42,7 +42,7 @@ act-spec =
     (λ c. search needs)
     (λ c κs. c .before .before .before .before .before .before .pre .0)
     (λ c. search needs)
-    (λ c κs. c .before .before .before .before .before .before .pre .0)
+    (λ c κs. (c .before .before .before .before .before .before .pre .0, seeks (c .before .before .before .before .before .before .pre .1 .0) (c .before .enum-told7 .given .1)))
     (λ c. search needs)
     (λ c κs. (c .before .before .before .before .before .before .pre .0, increases (c .before .before .before .before .before .before .pre .1 .0) (c .before .enum-told8 .given .1)))
     (λ c. search needs)

@@ -20,7 +20,7 @@ refusal-requires c κs = search needs
 returns : tie.Need-returns
 returns c =
     let a = c .before .before .before .before .before in
-    none reads (λ r e b. seekRecord r e b (a .args .s) (a .args .mode) (now (a .args .pattern))) (a .pre)
+    none reads (λ r e b. seekRecord r e b (a .args .s) (a .args .mode) (now (a .args .pattern))) (a .pre .0)
     (c .before .enum-told .given .1) (c .refusal .ensures)
 
 stand-requires : tie.Need-stand-requires
@@ -36,7 +36,7 @@ part-seek-record-end : tie.Need-part-seek-record-end
 part-seek-record-end c = search needs
 
 seek-record-requires : tie.Need-seek-record-requires
-seek-record-requires c κs = granted (c .before .stand .ensures)
+seek-record-requires c κs = (granted (c .before .stand .ensures), c .before .before .before .before .before .before .before .pre .1)
 
 returns-2 : tie.Need-returns-2
 returns-2 c =

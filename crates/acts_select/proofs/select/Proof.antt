@@ -1,9 +1,12 @@
 -- `acts_select::select` meets its contract: the head that was lent is the image's, and each way out is one law.
+use mathlib.Core.Logic.{inl, inr}
+use mathlib.Core.Path.{sym, _∙_}
 use native.Mathlib.Omega.{arith}
 use denote.Ref.{now}
-use Rattle.shelf.proofs.Heading.{head-length}
-use Rattle.acts_select.proofs.Finding.{heading, here, toDirectory, toFile, toNothing}
+use lib.Seq.{length-take-le}
 use borrow.Author.Needs.{needs}
+use Rattle.shelf.proofs.Heading.{head-length}
+use Rattle.acts_select.proofs.Finding.{fewDirectory, fewFile, heading, here, toDirectory, toFile, toNothing}
 use Rattle.acts_select.proofs.select.Statement.{statement}
 use Rattle.acts_select.proofs.select.Tie as tie
 
@@ -19,72 +22,62 @@ find-directory-requires c κs =
     let h = heading (c .before .before .before .pre) _ (c .before .image-index .ensures .is) in
     (h, here (c .before .before .before .pre) _ (c .before .image-index .ensures .is))
 
-directory-response-requires : tie.Need-directory-response-requires
-directory-response-requires c κs =
+found-directory-requires : tie.Need-found-directory-requires
+found-directory-requires c κs =
     let d = c .before .before .before .before in
-    (heading (d .before .before .pre) _ (d .image-index .ensures .is), omega arith)
-
-select-directory-requires : tie.Need-select-directory-requires
-select-directory-requires c κs = search needs
-
-returns : tie.Need-returns
-returns c =
-    let e = c .before .before .before .before .before .before .before .before in
-    toDirectory (e .pre) _ (c .before .before .before .before .before .before .image-index .ensures .is) _ _ _ _
-    (c .before .before .before .before .find-directory .ensures)
-    (c .before .before .if1 .taken)
-    (c .before .directory-response .ensures)
-    (c .select-directory .ensures)
+    (heading (d .before .before .pre) _ (d .image-index .ensures .is), c .if1 .taken)
 
 find-file-requires : tie.Need-find-file-requires
 find-file-requires c κs =
     let d = c .before .before .before .before in
     heading (d .before .before .pre) _ (d .image-index .ensures .is)
 
-mul-file : tie.Need-mul-file
-mul-file c = search needs
+refusal-requires : tie.Need-refusal-requires
+refusal-requires c κs = search needs
 
-add-file : tie.Need-add-file
-add-file c = search needs
+returns : tie.Need-returns
+returns c =
+    let d = c .before .before .before .before .before .before in
+    toNothing (d .before .before .before .before .pre) _ (d .before .before .image-index .ensures .is) _ _ _ _
+    (d .find-directory .ensures)
+    (c .before .before .before .before .if1 .left)
+    (c .before .before .before .find-file .ensures)
+    (c .before .if2 .taken)
+    (c .refusal .ensures)
 
-file-requires : tie.Need-file-requires
-file-requires c κs =
-    let d = c .before .before .before .before .before .before .before .before in
-    let h = heading (d .before .before .pre) _ (d .image-index .ensures .is) in
-    omega (arith, c .before .if2 .taken, h .whole)
+found-file-requires : tie.Need-found-file-requires
+found-file-requires c κs =
+    let d = c .before .before .before .before .before .before .before in
+    (heading (d .before .before .pre) _ (d .image-index .ensures .is), c .if2 .left)
 
-file-response-requires : tie.Need-file-response-requires
-file-response-requires c κs = search needs
+array-share-prefix-told : tie.Need-array-share-prefix-told
+array-share-prefix-told c =
+    elim (c .before .if1 .came) [
+      | inl h ↦ fewDirectory _ _ _ (h .2 ∙ h .1 .ensures) .0
+      | inr h ↦ fewFile _ _ _ _ (h .5 ∙ h .4 .ensures) .0
+    ]
 
-select-file-requires : tie.Need-select-file-requires
-select-file-requires c κs = search needs
+slice-aggregate-selected : tie.Need-slice-aggregate-selected
+slice-aggregate-selected c = sym (length-take-le _ _ (array-share-prefix-told (c .before)))
+
+selected-requires : tie.Need-selected-requires
+selected-requires c κs =
+    elim (c .before .before .if1 .came) [
+      | inl h ↦ omega (arith, slice-aggregate-selected c, fewDirectory _ _ _ (h .2 ∙ h .1 .ensures) .1)
+      | inr h ↦ omega (arith, slice-aggregate-selected c, fewFile _ _ _ _ (h .5 ∙ h .4 .ensures) .1)
+    ]
 
 returns-2 : tie.Need-returns-2
 returns-2 c =
-    let e = c .before .before .before .before .before .before .before .before .before .before .before .before .before in
-    let d = c .before .before .before .before .before .before .before in
-    toFile (e .pre) _ (d .before .before .before .before .image-index .ensures .is) _ _ _ _ _ _
-    (d .before .before .find-directory .ensures)
-    (d .if1 .left)
-    (c .before .before .before .before .before .before .find-file .ensures)
-    (c .before .before .before .before .if2 .taken)
-    (c .before .before .file .ensures)
-    (c .before .file-response .ensures)
-    (c .select-file .ensures)
-
-select-nothing-requires : tie.Need-select-nothing-requires
-select-nothing-requires c κs = search needs
-
-returns-3 : tie.Need-returns-3
-returns-3 c =
-    let e = c .before .before .before .before .before .before .before .before .before .before in
-    let d = c .before .before .before .before in
-    toNothing (e .pre) _ (d .before .before .before .before .image-index .ensures .is) _ _ _ _
-    (d .before .before .find-directory .ensures)
-    (d .if1 .left)
-    (c .before .before .before .find-file .ensures)
-    (c .before .if2 .left)
-    (c .select-nothing .ensures)
+    let d = c .before .before .before .before .before in
+    let r = d .before .before .before .before .pre in
+    let i = d .before .before .image-index .ensures .is in
+    elim (c .before .before .before .if1 .came) [
+      | inl h ↦ toDirectory r _ i _ _ _ _ (d .find-directory .ensures) (h .0 .taken) (h .2 ∙ h .1 .ensures) (c .selected .ensures)
+      | inr h ↦
+          toFile r _ i _ _ _ _ _ (d .find-directory .ensures) (h .0 .left) (h .1 .ensures) (h .3 .left)
+          (h .5 ∙ h .4 .ensures) (c .selected .ensures)
+    ]
 
 pub select-spec : {M : Type 1} → statement M
 select-spec =
@@ -93,15 +86,12 @@ select-spec =
     image-index-requires
     slice-aggregate-head
     find-directory-requires
-    directory-response-requires
-    select-directory-requires
-    returns
+    found-directory-requires
     find-file-requires
-    mul-file
-    add-file
-    file-requires
-    file-response-requires
-    select-file-requires
-    returns-2
-    select-nothing-requires
-    returns-3)
+    refusal-requires
+    returns
+    found-file-requires
+    array-share-prefix-told
+    slice-aggregate-selected
+    selected-requires
+    returns-2)

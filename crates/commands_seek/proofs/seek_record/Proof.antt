@@ -1,14 +1,15 @@
 -- `commands_seek::seek_record` meets its contract.
-use Prim.Native.Nat.{_%_, ℕ, _+_, _-_, _*_, _≤_}
+use Prim.Native.Nat.{ℕ, _+_, _*_, _/_, _%_, _≤_}
 use mathlib.Core.List.{[], _∷_}
+use mathlib.Core.Logic.{inl, inr}
 use mathlib.Core.Path.{_≡_, sym, ap, _∙_}
 use native.Mathlib.Omega.{arith}
 use denote.Ref.{now}
-use lib.ListN.{length}
+use lib.ListN.{length, take}
+use lib.Seq.{length-take-le}
 use borrow.Author.Needs.{needs}
-use Rattle.card.specs.declared.Pointer.the-variants.{At}
 use Rattle.card.specs.declared.Session.{Session}
-use Rattle.card.specs.Sessions.{dropped, points, waits}
+use Rattle.card.specs.Sessions.{waits}
 use Rattle.card.specs.Seek.{sought}
 use Rattle.card.specs.Layout.{records}
 use Rattle.card.specs.Answers.{refusal, reply}
@@ -52,9 +53,9 @@ records-requires c κs = search needs
 sought-requires : tie.Need-sought-requires
 sought-requires c κs =
     let a = c .before .before .before .before .before .before .before .before .args in
-    let h : Recorded (a .e) = searched (a .r) (a .e) (now (a .b)) (a .s .pointer) _ (c .before .before .before .before .before .before .before .before .pre) (c .before .before .before .before .shared .ensures) (c .before .before .before .if1 .left) in
-    let m : c .records .result * c .before .before .wide .result ≡ length (now (a .b)) = simp (c .records .ensures, c .before .before .wide .ensures .0) (h .whole ∙ sym (c .before .before .before .before .before .before .before .before .pre .full)) in
-    ((omega arith, (omega arith, omega (arith, c .records .ensures, h .few))), λ k e. rw (c .records .ensures) (c .before .before .before .before .before .before .before .before .pre .pointed k e))
+    let h : Recorded (a .e) = searched (a .r) (a .e) (now (a .b)) (a .s .pointer) _ (c .before .before .before .before .before .before .before .before .pre .0) (c .before .before .before .before .shared .ensures) (c .before .before .before .if1 .left) in
+    let m : c .records .result * c .before .before .wide .result ≡ length (now (a .b)) = simp (c .records .ensures, c .before .before .wide .ensures .0) (h .whole ∙ sym (c .before .before .before .before .before .before .before .before .pre .0 .full)) in
+    ((omega arith, (omega arith, omega (arith, c .records .ensures, h .few))), λ k e. rw (c .records .ensures) (c .before .before .before .before .before .before .before .before .pre .0 .pointed k e))
 
 refusal-requires-3 : tie.Need-refusal-requires-3
 refusal-requires-3 c κs = search needs
@@ -66,45 +67,37 @@ returns-3 c =
     let l : length (now (a .pattern)) ≤ a .e .width = rw (c .before .before .before .before .before .wide .ensures .0) at (c .before .before .before .before .if2 .left) in
     noneMatches (a .r) (a .e) (now (a .b)) (a .s) (a .mode) _ (now (a .pattern)) (c .before .before .before .before .before .before .before .shared .ensures) _ _ (c .before .before .before .before .before .before .if1 .left) l q (c .before .if3 .taken) (c .refusal3 .ensures)
 
-dropped-requires : tie.Need-dropped-requires
-dropped-requires c κs = search needs
+cast-t20 : tie.Need-cast-t20
+cast-t20 c =
+    let a = c .before .before .before .before .before .before .before .before .before .before .args in
+    let h : Recorded (a .e) = searched (a .r) (a .e) (now (a .b)) (a .s .pointer) _ (c .before .before .before .before .before .before .before .before .before .before .pre .0) (c .before .before .before .before .before .before .shared .ensures) (c .before .before .before .before .before .if1 .left) in
+    record { fits = omega (arith, c .before .sought .ensures .1, c .before .before .records .ensures, h .few) }
+
+array-share-prefix-number : tie.Need-array-share-prefix-number
+array-share-prefix-number c = search needs
+
+slice-aggregate-waits : tie.Need-slice-aggregate-waits
+slice-aggregate-waits c = sym (length-take-le _ _ (omega (arith, c .before .before .before .before .before .before .before .before .before .before .before .before .pre .1)))
 
 points-requires : tie.Need-points-requires
 points-requires c κs = search needs
+
+waits-requires : tie.Need-waits-requires
+waits-requires c κs = omega (arith, slice-aggregate-waits (c .before), c .before .before .before .before .before .before .before .before .before .before .before .before .before .pre .1)
 
 silent-requires : tie.Need-silent-requires
 silent-requires c κs = search needs
 
 returns-4 : tie.Need-returns-4
 returns-4 c =
-    let a = c .before .before .before .before .before .before .before .before .before .before .before .before .before .before .args in
-    let q : c .before .before .before .before .before .sought .result ≡ sought (now (a .b)) (a .e .width) (records (a .e)) (now (a .pattern)) (a .mode % 16) (a .s .pointer) = c .before .before .before .before .before .sought .ensures .0 ∙ simp (c .before .before .before .before .before .before .before .before .wide .ensures .0, c .before .before .before .before .before .before .records .ensures) in
-    let l : length (now (a .pattern)) ≤ a .e .width = rw (c .before .before .before .before .before .before .before .before .wide .ensures .0) at (c .before .before .before .before .before .before .before .if2 .left) in
-    pointed (a .r) (a .e) (now (a .b)) (a .s) (a .mode) _ (now (a .pattern)) (c .before .before .before .before .before .before .before .before .before .before .shared .ensures) _ _ (c .before .before .before .before .before .before .before .before .before .if1 .left) l q (c .before .before .before .before .if3 .left) (c .before .before .before .if4 .taken)
-    (c .silent .ensures ∙ ap (λ (s : Session). brief (reply [] 0x9000 s)) (c .before .points .ensures ∙ ap (points (At _)) (c .before .before .dropped .ensures)))
-
-cast-waits-one : tie.Need-cast-waits-one
-cast-waits-one c =
-    let a = c .before .before .before .before .before .before .before .before .before .before .before .args in
-    let h : Recorded (a .e) = searched (a .r) (a .e) (now (a .b)) (a .s .pointer) _ (c .before .before .before .before .before .before .before .before .before .before .before .pre) (c .before .before .before .before .before .before .before .shared .ensures) (c .before .before .before .before .before .before .if1 .left) in
-    record { fits = omega (arith, c .before .before .sought .ensures .1, c .before .before .before .records .ensures, h .few) }
-
-points-requires-2 : tie.Need-points-requires-2
-points-requires-2 c κs = search needs
-
-waits-one-requires : tie.Need-waits-one-requires
-waits-one-requires c κs = search needs
-
-silent-requires-2 : tie.Need-silent-requires-2
-silent-requires-2 c κs = search needs
-
-returns-5 : tie.Need-returns-5
-returns-5 c =
-    let a = c .before .before .before .before .before .before .before .before .before .before .before .before .before .before .args in
-    let q : c .before .before .before .before .before .sought .result ≡ sought (now (a .b)) (a .e .width) (records (a .e)) (now (a .pattern)) (a .mode % 16) (a .s .pointer) = c .before .before .before .before .before .sought .ensures .0 ∙ simp (c .before .before .before .before .before .before .before .before .wide .ensures .0, c .before .before .before .before .before .before .records .ensures) in
-    let l : length (now (a .pattern)) ≤ a .e .width = rw (c .before .before .before .before .before .before .before .before .wide .ensures .0) at (c .before .before .before .before .before .before .before .if2 .left) in
-    told (a .r) (a .e) (now (a .b)) (a .s) (a .mode) _ (now (a .pattern)) (c .before .before .before .before .before .before .before .before .before .before .shared .ensures) _ _ (c .before .before .before .before .before .before .before .before .before .if1 .left) l q (c .before .before .before .before .if3 .left) (c .before .before .before .if4 .left)
-    (c .silent2 .ensures ∙ ap (λ (s : Session). brief (reply [] 0x9f01 s)) (c .before .waits-one .ensures ∙ ap (waits (_ ∷ [])) (c .before .before .points2 .ensures)))
+    let a = c .before .before .before .before .before .before .before .before .before .before .before .before .before .before .before .args in
+    let q : c .before .before .before .before .before .before .sought .result ≡ sought (now (a .b)) (a .e .width) (records (a .e)) (now (a .pattern)) (a .mode % 16) (a .s .pointer) = c .before .before .before .before .before .before .sought .ensures .0 ∙ simp (c .before .before .before .before .before .before .before .before .before .wide .ensures .0, c .before .before .before .before .before .before .before .records .ensures) in
+    let l : length (now (a .pattern)) ≤ a .e .width = rw (c .before .before .before .before .before .before .before .before .before .wide .ensures .0) at (c .before .before .before .before .before .before .before .before .if2 .left) in
+    let t = c .silent .ensures ∙ ap (λ (s : Session). brief (reply [] (c .before .before .before .before .if4 .word) s)) (c .before .waits .ensures ∙ ap (waits (take (a .mode / 16) (c .before .before .before .before .before .before .sought .result ∷ []))) (c .before .before .points .ensures)) in
+    elim (c .before .before .before .before .if4 .came) [
+      | inl h ↦ pointed (a .r) (a .e) (now (a .b)) (a .s) (a .mode) _ (now (a .pattern)) (c .before .before .before .before .before .before .before .before .before .before .before .shared .ensures) _ _ _ (c .before .before .before .before .before .before .before .before .before .before .if1 .left) l q (c .before .before .before .before .before .if3 .left) (h .0 .taken) (h .1) t
+      | inr h ↦ told (a .r) (a .e) (now (a .b)) (a .s) (a .mode) _ (now (a .pattern)) (c .before .before .before .before .before .before .before .before .before .before .before .shared .ensures) _ _ _ (c .before .before .before .before .before .before .before .before .before .before .if1 .left) l q (c .before .before .before .before .before .if3 .left) (h .0 .left) (c .before .before .before .before .before .before .before .before .before .before .before .before .before .before .before .pre .1) (h .1) t
+    ]
 
 pub seek-record-spec : {M : Type 1} → statement M
 seek-record-spec =
@@ -122,12 +115,10 @@ seek-record-spec =
     sought-requires
     refusal-requires-3
     returns-3
-    dropped-requires
+    cast-t20
+    array-share-prefix-number
+    slice-aggregate-waits
     points-requires
+    waits-requires
     silent-requires
-    returns-4
-    cast-waits-one
-    points-requires-2
-    waits-one-requires
-    silent-requires-2
-    returns-5)
+    returns-4)

@@ -1,8 +1,8 @@
--- `commands_select::select::first_pointer` meets its contract.
+-- `acts_select::first_pointer` meets its contract.
 use borrow.Author.Tests.{eq-eqb, ne-eqb}
 use Rattle.access.proofs.Refusals.{indeed, otherwise}
-use Rattle.commands_select.proofs.select.first_pointer.Statement.{statement}
-use Rattle.commands_select.proofs.select.first_pointer.Tie as tie
+use Rattle.acts_select.proofs.first_pointer.Statement.{statement}
+use Rattle.acts_select.proofs.first_pointer.Tie as tie
 
 returns : tie.Need-returns
 returns c = indeed _ _ _ (eq-eqb _ _ (c .if1 .taken))
