@@ -5,13 +5,13 @@ use mathlib.Core.List.{List, [], _∷_}
 use mathlib.Core.Bool.{Bool, true, false, not}
 use native.Mathlib.Omega.{arith}
 use lib.Dec.{eqb}
-use lib.ListN.{length, set}
+use lib.ListN.{set}
 use borrow.Author.Tests.{eq-eqb, ne-eqb, eqb-false, not-true, not-false}
-use Rattle.card.specs.Bytes.{part, splice, same}
+use Rattle.card.specs.Bytes.{part, same}
 use Rattle.card.specs.Layout.{codeEntry}
 use Rattle.card.specs.Answers.{Coded, Refusal, first, _says_, refusal, reply}
 use Rattle.card.specs.Sessions.{dropped, presents}
-use Rattle.card.specs.Codes.{Key, value, attemptsLeft, attemptsAt, ready, renewed, tested}
+use Rattle.card.specs.Codes.{Key, value, attemptsLeft, attemptsAt, ready, tested}
 use Rattle.card.specs.declared.Code.{Code}
 use Rattle.card.specs.declared.Session.{Session}
 use Rattle.commands.specs.declared.answers.Reply.{Reply as Told}
@@ -43,20 +43,10 @@ module _ (key : Key) (k : Code) (x r : Bool) (n : ℕ) (is : r ≡ ready key k) 
   pub testable : not r ≡ false → n ≡ attemptsLeft key k → (n ≡ 0 → ⊥) → x ≡ false → 0 ≡ first (untestable key k x)
   testable h l z e = more 0 h l z (nothing ∙ passing _ 0x9808 _ e)
 
--- four bytes and a code written over an entry
-pub anew : (e new : List ℕ) (f u : ℕ) → length e ≡ 20 → length new ≡ 8
-    → splice (set (set (set (set e 0 f) 1 3) 2 u) 3 0) 4 (length new) new ≡ renewed e f u new
-anew [] new f u h n = absurd (omega (arith, h))
-anew (a ∷ []) new f u h n = absurd (omega (arith, h))
-anew (a ∷ b ∷ []) new f u h n = absurd (omega (arith, h))
-anew (a ∷ b ∷ c ∷ []) new f u h n = absurd (omega (arith, h))
-anew (a ∷ b ∷ c ∷ d ∷ e) new f u h n = simp n
-
 -- the bytes that were compared are the code
-pub compared : (key : Key) (e given : List ℕ) (at : ℕ) (r : Bool) → r ≡ same (part e at (length given)) given → at ≡ valueAt key → length given ≡ 8
-    → r ≡ same (value key e) given
-compared Key.chv e given at r h a n = h ∙ simp (a, n)
-compared Key.unblocking e given at r h a n = h ∙ simp (a, n)
+pub compared : (key : Key) (e given : List ℕ) (at : ℕ) (r : Bool) → r ≡ same (part e at 8) given → at ≡ valueAt key → r ≡ same (value key e) given
+compared Key.chv e given at r h a = h ∙ simp a
+compared Key.unblocking e given at r h a = h ∙ simp a
 
 -- where nothing refuses, an attempt is left and nothing contradicts
 pub some : (key : Key) (k : Code) (x : Bool) → 0 ≡ first (untestable key k x) → (attemptsLeft key k ≡ 0 → ⊥) × (x ≡ false)

@@ -34,8 +34,8 @@ returns c =
 value-at-requires : tie.Need-value-at-requires
 value-at-requires c κs = search needs
 
-alike-requires : tie.Need-alike-requires
-alike-requires c κs = search needs
+same-code-requires : tie.Need-same-code-requires
+same-code-requires c κs = search needs
 
 attempts-left-requires : tie.Need-attempts-left-requires
 attempts-left-requires c κs = search needs
@@ -63,7 +63,7 @@ same-length-2 c = search needs
 returns-2 : tie.Need-returns-2
 returns-2 c =
     let a = c .before .before .before .before .before .before .before .before .before .before .before .before .before .before .before .args in
-    missed (now (a .e)) (a .s) (a .c) (keyed (a .key)) (a .contradicts) (now (a .given)) _ _ _ _ (c .before .before .before .before .before .before .before .before .before .before .code .ensures) (c .before .before .before .before .before .before .before .before .before .untestable .ensures) _ _ _ (c .before .before .before .before .before .before .before .before .if1 .left) (compared (keyed (a .key)) (now (a .e)) (now (a .given)) _ _ (c .before .before .before .before .before .alike .ensures) (c .before .before .before .before .before .before .value-at .ensures .0) (c .before .before .before .before .before .before .before .before .before .before .before .before .before .before .before .pre .given)) (c .before .before .before .before .if2 .taken) (c .before .before .before .attempts-left .ensures) (c .before .before .attempts-at .ensures .0) (c .refusal2 .ensures ∙ ap (λ (w : ℕ). brief (refusal (a .s) w)) (c .before .missed-word .ensures))
+    missed (now (a .e)) (a .s) (a .c) (keyed (a .key)) (a .contradicts) (now (a .given)) _ _ _ _ (c .before .before .before .before .before .before .before .before .before .before .code .ensures) (c .before .before .before .before .before .before .before .before .before .untestable .ensures) _ _ _ (c .before .before .before .before .before .before .before .before .if1 .left) (compared (keyed (a .key)) (now (a .e)) (now (a .given)) _ _ (c .before .before .before .before .before .same-code .ensures) (c .before .before .before .before .before .before .value-at .ensures .0)) (c .before .before .before .before .if2 .taken) (c .before .before .before .attempts-left .ensures) (c .before .before .attempts-at .ensures .0) (c .refusal2 .ensures ∙ ap (λ (w : ℕ). brief (refusal (a .s) w)) (c .before .missed-word .ensures))
 
 renew-requires : tie.Need-renew-requires
 renew-requires c κs = search needs
@@ -83,7 +83,7 @@ same-length-3 c = search needs
 returns-3 : tie.Need-returns-3
 returns-3 c =
     let a = c .before .before .before .before .before .before .before .before .before .before .before .before .before .before .before .before .before .before .args in
-    right (now (a .e)) (a .s) (a .c) (keyed (a .key)) (a .contradicts) (now (a .given)) _ _ _ _ (c .before .before .before .before .before .before .before .before .before .before .before .before .before .code .ensures) (c .before .before .before .before .before .before .before .before .before .before .before .before .untestable .ensures) _ _ (c .before .before .before .before .before .before .before .before .before .before .before .if1 .left) (compared (keyed (a .key)) (now (a .e)) (now (a .given)) _ _ (c .before .before .before .before .before .before .before .before .alike .ensures) (c .before .before .before .before .before .before .before .before .before .value-at .ensures .0) (c .before .before .before .before .before .before .before .before .before .before .before .before .before .before .before .before .before .before .pre .given)) (c .before .before .before .before .before .before .before .if2 .left) (c .silent .ensures ∙ ap (λ (s : Session). brief (reply [] 0x9000 s)) (c .before .presents .ensures ∙ ap (presents (a .c)) (c .before .before .dropped .ensures))) (c .before .before .before .before .before .renew .ensures)
+    right (now (a .e)) (a .s) (a .c) (keyed (a .key)) (a .contradicts) (now (a .given)) _ _ _ _ (c .before .before .before .before .before .before .before .before .before .before .before .before .before .code .ensures) (c .before .before .before .before .before .before .before .before .before .before .before .before .untestable .ensures) _ _ (c .before .before .before .before .before .before .before .before .before .before .before .if1 .left) (compared (keyed (a .key)) (now (a .e)) (now (a .given)) _ _ (c .before .before .before .before .before .before .before .before .same-code .ensures) (c .before .before .before .before .before .before .before .before .before .value-at .ensures .0)) (c .before .before .before .before .before .before .before .if2 .left) (c .silent .ensures ∙ ap (λ (s : Session). brief (reply [] 0x9000 s)) (c .before .presents .ensures ∙ ap (presents (a .c)) (c .before .before .dropped .ensures))) (c .before .before .before .before .before .renew .ensures)
 
 pub tested-spec : {M : Type 1} → statement M
 tested-spec =
@@ -95,7 +95,7 @@ tested-spec =
     same-length
     returns
     value-at-requires
-    alike-requires
+    same-code-requires
     attempts-left-requires
     attempts-at-requires
     sub-e
