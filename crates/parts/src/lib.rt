@@ -2,7 +2,7 @@
 ghost use mathlib.Core.Path.{_≡_};
 ghost use Prim.Native.Nat.{_+_, _≤_, _<_};
 ghost use lib.ListN.{length};
-ghost use Rattle.card.specs.Bytes.{part, same, splice};
+ghost use Rattle.card.specs.Bytes.{part, splice};
 ghost use Rattle.card.specs.Answers.{laid};
 
 // A byte as a number that sums and products take.
@@ -42,19 +42,4 @@ pub fn put(b: &mut [u8], at: usize, new: &[u8])
 {
     let end = at + new.len();
     bytes::copy(new, &mut b[at..end]);
-}
-
-// Whether the bytes from a place on are these. Only this player's crates call it.
-pub fn alike(b: &[u8], at: usize, these: &[u8]) -> bool
-    requires { ⌜ at + length (now these) ≤ length (now b) ⌝ }
-    ensures { λ r. ⌜ r ≡ same (part (now (b .entry)) at (length (now (these .entry)))) (now (these .entry)) ⌝ }
-{
-    let mut j = 0;
-    while j < these.len() {
-        if b[at + j] != these[j] {
-            return false;
-        }
-        j += 1;
-    }
-    true
 }
