@@ -1,29 +1,22 @@
 -- Laws of an examination: its ways out, and what its answer says.
 use Prim.Native.Nat.{ℕ}
-use mathlib.Core.Path.{_≡_, refl, ap, subst, _∙_}
+use mathlib.Core.Path.{_≡_, refl, ap, subst}
 use mathlib.Core.List.{List, [], _∷_}
 use mathlib.Core.Bool.{Bool, true, false}
 use native.Mathlib.Omega.{arith}
-use lib.ListN.{take}
 use types.Run.{OneOf, miss}
 use denote.Enum.Declared.{tagOf}
 use Rattle.card.specs.Answers.{number}
-use Rattle.card.specs.Layout.{index, head}
+use Rattle.card.specs.Layout.{head}
 use Rattle.card.specs.Sessions.{fits}
 use Rattle.card.specs.Shelf.{isImage}
 use Rattle.card.specs.declared.Answer.{Answer}
 use Rattle.card.specs.declared.Answer.the-variants.{Played, NotAnImage, DoesNotFit}
-use Rattle.card.specs.declared.Index.{Index}
 use Rattle.card.specs.declared.Session.{Session}
 use Rattle.card.proofs.Answer.{the-type}
 use Rattle.shelf_check.specs.Examined.{answerOf, examined}
 
 module _ (l : List ℕ) (s : Session) where
-  -- the head is the part before the store that the index tells
-  pub by-head : (i : Index) → i ≡ index l → {r : Bool} → r ≡ fits (take (i .store) l) s → r ≡ fits (head l) s
-  unfolding head
-  by-head i is e = e ∙ ap (λ (x : Index). fits (take (x .store) l) s) is
-
   pub no-image : isImage l ≡ false → NotAnImage ≡ examined l s
   unfolding examined
   no-image e = simp (examined, e)

@@ -1,7 +1,8 @@
-// Whether a session fits an image, by the image's head.
+// Whether a session fits the head of an image. The counts and the length are known to be an image's, the entries not.
 ghost use mathlib.Core.Path.{_≡_};
+ghost use Rattle.card.specs.Layout.{head};
 ghost use Rattle.card.specs.Sessions.{pointed, stands, padded, fits};
-ghost use Rattle.shelf.specs.Reads.{Head};
+ghost use Rattle.shelf_check.specs.Whole.{Whole};
 use card::Current;
 use card::Entry;
 use card::Index;
@@ -22,9 +23,9 @@ fn pointed(e: Entry, p: Pointer) -> bool
 }
 
 // The current file lies in the current directory.
-fn stands(head: &[u8], i: Index, d: usize, c: Current, p: Pointer) -> bool
-    requires { ⌜ Head (now head) i ⌝ }
-    ensures { λ r. ⌜ r ≡ stands (now (head .entry)) d c p ⌝ }
+fn stands(image: &[u8], i: Index, d: usize, c: Current, p: Pointer) -> bool
+    requires { ⌜ Whole (now image) i ⌝ }
+    ensures { λ r. ⌜ r ≡ stands (head (now (image .entry))) d c p ⌝ }
 {
     match c {
         Current::Nothing => match p {
@@ -33,7 +34,7 @@ fn stands(head: &[u8], i: Index, d: usize, c: Current, p: Pointer) -> bool
         },
         Current::File(f) => {
             if f < i.files {
-                let e = entries::file(head, i.table + 14 * f);
+                let e = entries::file(image, i.table + 14 * f);
                 ((e.home as usize) == d) & pointed(e, p)
             } else {
                 false
@@ -91,9 +92,9 @@ fn padded(waiting: [u8; 22], count: usize) -> bool
 }
 
 // The directory exists, the current file lies in it, and what waits is padded.
-pub fn fits(head: &[u8], i: Index, s: Session) -> bool
-    requires { ⌜ Head (now head) i ⌝ }
-    ensures { λ r. ⌜ r ≡ fits (now (head .entry)) s ⌝ }
+pub fn fits(image: &[u8], i: Index, s: Session) -> bool
+    requires { ⌜ Whole (now image) i ⌝ }
+    ensures { λ r. ⌜ r ≡ fits (head (now (image .entry))) s ⌝ }
 {
     let directory = s.directory;
     let current = s.current;
@@ -101,6 +102,6 @@ pub fn fits(head: &[u8], i: Index, s: Session) -> bool
     let waiting = s.waiting;
     let count = s.count;
     (directory < i.directories)
-        & stands(head, i, directory, current, pointer)
+        & stands(image, i, directory, current, pointer)
         & padded(waiting, count)
 }

@@ -6,21 +6,18 @@ mod rules;
 
 ghost use mathlib.Core.Path.{_≡_};
 ghost use Rattle.card.specs.Shelf.{isImage};
-ghost use Rattle.shelf.specs.Reads.{Indexed};
 ghost use Rattle.shelf_check.specs.Examined.{examined};
+ghost use Rattle.shelf_check.specs.Whole.{Whole};
 use card::Answer;
 use card::Index;
 use card::Session;
 use shelf::read;
 
-// Section by section. The entries are looked at only where the counts and the length are an image's.
+// Section by section, once the counts and the length are an image's.
 fn sound(image: &[u8], i: Index) -> bool
-    requires { ⌜ Indexed (now image) i ⌝ }
+    requires { ⌜ Whole (now image) i ⌝ }
     ensures { λ r. ⌜ r ≡ isImage (now (image .entry)) ⌝ }
 {
-    if !check::whole(image, i) {
-        return false;
-    }
     if !check::codes_sound(image, i) {
         return false;
     }
@@ -34,20 +31,27 @@ fn sound(image: &[u8], i: Index) -> bool
 pub fn is_image(image: &[u8]) -> bool
     ensures { λ r. ⌜ r ≡ isImage (now (image .entry)) ⌝ }
 {
-    sound(image, read::index(image))
+    let i = read::index(image);
+    if !check::whole(image, i) {
+        return false;
+    }
+    sound(image, i)
 }
 
 // The host's answer before a command is looked at: whether the bytes are an image, and whether the session fits it. `Played` says that
-// nothing is in the way so far.
+// nothing is in the way so far. The session is tested before the loops over the entries: they are slower where it is kept through them.
 pub fn examine(image: &[u8], session: Session) -> Answer
     ensures { λ r. ⌜ r ≡ examined (now (image .entry)) session ⌝ }
 {
     let i = read::index(image);
+    if !check::whole(image, i) {
+        return Answer::NotAnImage;
+    }
+    let fit = fit::fits(image, i, session);
     if !sound(image, i) {
         return Answer::NotAnImage;
     }
-    let store = i.store;
-    if !fit::fits(&image[..store], i, session) {
+    if !fit {
         return Answer::DoesNotFit;
     }
     Answer::Played

@@ -11,7 +11,7 @@ padded-requires : tie.Need-padded-requires
 padded-requires c κs = search needs
 
 returns : tie.Need-returns
-returns c = by-parts _ _ _ _ _ (c .before .before .before .before .before .pre .indexed .is) (c .before .stands .ensures) (c .padded .ensures)
+returns c = by-parts _ _ _ _ _ (c .before .before .before .before .before .pre) (c .before .stands .ensures) (c .padded .ensures)
 
 pub fits-spec : {M : Type 1} → statement M
 fits-spec = tie.close (tie.spec stands-requires padded-requires returns)

@@ -1,5 +1,6 @@
 -- `shelf_check::fit::stands` meets its contract: a law for each way out.
 use Rattle.shelf_check.proofs.Fitting.{stands-nowhere, stands-astray, stands-on, stands-off}
+use Rattle.shelf_check.proofs.Sections.{file-inside}
 use native.Mathlib.Omega.{arith}
 use borrow.Author.Needs.{needs}
 use Rattle.shelf_check.proofs.fit.stands.Statement.{statement}
@@ -21,10 +22,10 @@ mul-file : tie.Need-mul-file
 mul-file c = omega (arith, c .before .before .before .before .before .before .pre .files)
 
 add-file : tie.Need-add-file
-add-file c = let h = c .before .before .before .before .before .before .before .pre in omega (arith, h .files, h .indexed .table)
+add-file c = let w = c .before .before .before .before .before .before .before .pre in omega (arith, w .files, w .indexed .table)
 
 file-requires : tie.Need-file-requires
-file-requires c κs = omega (arith, c .before .if1 .taken, c .before .before .before .before .before .before .before .pre .whole)
+file-requires c κs = file-inside _ _ (c .before .before .before .before .before .before .before .pre) _ (c .before .if1 .taken)
 
 cast-result : tie.Need-cast-result
 cast-result c = search needs
@@ -41,10 +42,10 @@ returns-2 c = stands-astray _ _ _ _ _ (c .before .before .enum-told .given .1) (
 returns-3 : tie.Need-returns-3
 returns-3 c =
     let d = c .before .before .before .before in
-    stands-on _ _ _ _ _ _ (d .before .before .before .before .before .before .pre .indexed .is) (d .before .before .before .c .given .1) _ _ (d .if1 .taken) (c .before .before .file .ensures) (c .pointed .ensures)
+    stands-on _ _ _ _ _ (d .before .before .before .before .before .before .pre) _ (d .before .before .before .c .given .1) _ _ (d .if1 .taken) (c .before .before .file .ensures) (c .pointed .ensures)
 
 returns-4 : tie.Need-returns-4
-returns-4 c = stands-off _ _ _ _ _ _ (c .before .before .before .before .before .before .pre .indexed .is) (c .before .before .before .c .given .1) (c .if1 .left)
+returns-4 c = stands-off _ _ _ _ _ (c .before .before .before .before .before .before .pre) _ (c .before .before .before .c .given .1) (c .if1 .left)
 
 pub stands-spec : {M : Type 1} → statement M
 stands-spec =
