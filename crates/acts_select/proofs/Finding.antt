@@ -52,34 +52,35 @@ unfolding foundFile fileResponse
 fewFile h d f x e = rw e (omega arith, omega arith)
 
 module _ {l : List ℕ} {s : Session} (r : Ready l s) (i : Index) (is : i ≡ index l) where
-  lent : take (i .store) l ≡ head l
+  -- the bytes that were lent
+  abbrev seen : List ℕ
+  seen = take (i .store) l
+
+  lent : seen ≡ head l
   unfolding head
   lent = rw is
 
-  pub heading : Head (take (i .store) l) i
+  pub heading : Head seen i
   heading = head-of l i is (r .image)
 
-  known : i ≡ index (take (i .store) l)
+  known : i ≡ index seen
   known = heading .indexed .is
 
-  directories : i .directories ≡ index (take (i .store) l) .directories
+  directories : i .directories ≡ index seen .directories
   directories = ap (λ (i : Index). i .directories) known
 
-  files : i .files ≡ index (take (i .store) l) .files
+  files : i .files ≡ index seen .files
   files = ap (λ (i : Index). i .files) known
 
   pub here : s .directory < i .directories
   here = omega (arith, directories, ap (λ (h : List ℕ). index h .directories) lent, within (head l) s (r .session))
 
   -- what is said of the bytes that were lent is said of the head
-  silently : (command : List ℕ → card.Reply) (t : Reply) → Says (command (take (i .store) l)) t → (room : List ℕ)
+  silently : (command : List ℕ → card.Reply) (t : Reply) → Says (command seen) t → (room : List ℕ)
       → Tells (command (head l)) l s t room room
   silently command t g room = tells r (command (head l)) t room room (quiet (rw lent at g) room)
 
   -- SELECT finds a directory, a file, or nothing
-  abbrev seen : List ℕ
-  seen = take (i .store) l
-
   abbrev entered : Found → card.Reply
   entered x =
       let b = take (x .count) (x .told) in
@@ -129,7 +130,7 @@ module _ {l : List ℕ} {s : Session} (r : Ready l s) (i : Index) (is : i ≡ in
       (record { reply = q; silent = refl }))
 
   -- STATUS, by the bytes on the current directory
-  pub status : (n : ℕ) (bytes was now : List ℕ) (t : Reply) → bytes ≡ directoryResponse (take (i .store) l) (s .directory)
+  pub status : (n : ℕ) (bytes was now : List ℕ) (t : Reply) → bytes ≡ directoryResponse seen (s .directory)
       → ((h : List ℕ) → bytes ≡ directoryResponse h (s .directory) → Gives (tellStatus h s n) t was now)
       → Tells (tellStatus (head l) s n) l s t was now
   status n bytes was now t b gives = tells r (tellStatus (head l) s n) t was now (gives (head l) (rw lent at b))

@@ -20,7 +20,7 @@ ghost use Rattle.acts.specs.Leaves.{Tells};
 ghost use Rattle.acts.specs.Ready.{Ready};
 ghost use Rattle.acts_select.specs.Finds.{foundDirectory, foundFile};
 
-// What SELECT enters, and the first bytes that tell of it.
+// What SELECT enters, and how many of these bytes tell of it.
 struct Found {
     directory: usize,
     current: Current,

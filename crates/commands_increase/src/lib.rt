@@ -50,7 +50,7 @@ fn six(n: usize, added: &[u8]) -> [u8; 6]
     [d[0], d[1], d[2], added[0], added[1], added[2]]
 }
 
-// INCREASE. Only this player's crates call it.
+// INCREASE: the record and what was added wait. Only this player's crates call it.
 pub fn increase_by(r: Rights, e: Entry, b: &mut [u8], s: Session, added: &[u8]) -> Written
     requires { ⌜ Stands e (now b) (s .pointer) ⌝ }
     requires { ⌜ Counts e (now added) ⌝ }
@@ -70,7 +70,6 @@ pub fn increase_by(r: Rights, e: Entry, b: &mut [u8], s: Session, added: &[u8]) 
     let new = amount_bytes(sum);
     let top = push(e, b, &new);
     let told = six(sum, added);
-    // the record and what was added
     let n = wide(e.width) + 3;
     let reply = silent(waits(&told[..n], points(Pointer::At(1), s)), 0x9f06);
     Written { reply, top }

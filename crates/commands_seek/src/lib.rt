@@ -112,7 +112,7 @@ fn sought(b: &[u8], m: usize, n: usize, pattern: &[u8], mode: usize, p: Pointer)
     backward(b, m, pattern, k - 1)
 }
 
-// SEEK. Only this player's crates call it.
+// SEEK: as many bytes tell the record as the type says. Only this player's crates call it, after the test of the type.
 pub fn seek_record(r: Rights, e: Entry, b: &[u8], s: Session, mode: usize, pattern: &[u8]) -> Reply
     requires { ⌜ Stands e (now b) (s .pointer) ⌝ }
     requires { ⌜ mode / 16 < 2 ⌝ }
@@ -131,7 +131,6 @@ pub fn seek_record(r: Rights, e: Entry, b: &[u8], s: Session, mode: usize, patte
     if k == 0 {
         return refusal(s, 0x9404);
     }
-    // as many bytes tell the record as the type says
     let n = mode / 16;
     let number = [k as u8];
     let word = if n == 0 { 0x9000 } else { 0x9f01 };
