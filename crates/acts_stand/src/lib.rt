@@ -3,6 +3,8 @@ use card::Entry;
 use card::Index;
 use card::Rights;
 use card::Session;
+use entries::CHV1;
+use entries::CHV2;
 use parts::wide_word;
 use shelf::read;
 ghost use mathlib.Core.Path.{_≡_};
@@ -30,11 +32,6 @@ pub struct Place {
     pub start: usize,
     pub end: usize,
 }
-
-// Where the codes' entries stand.
-const CHV1: usize = 2;
-
-const CHV2: usize = 22;
 
 // Which of levels 1 and 2 the codes and the session fulfil.
 fn rights(l: &[u8], s: Session) -> Rights

@@ -11,7 +11,7 @@ use lib.Seq.{drop-cons, getD-take, getD-drop, take-all, sets, sets-eq}
 use borrow.Author.Tests.{eq-eqb, ne-eqb, eqb-true, eqb-false}
 use Rattle.card.specs.Bytes.{part, same}
 use Rattle.card.specs.Codes.{renewed}
-use Rattle.parts.proofs.Splices.{length-part}
+use Rattle.card.proofs.Parts.{length-part}
 use Rattle.code_tests.specs.Numbers.{number, Bytes, Numbered}
 
 module _ (l : List ℕ) (n : length l ≡ 8) where

@@ -8,6 +8,11 @@ use card::Code;
 use card::Directory;
 use card::Entry;
 
+// Where the entries of CHV1 and CHV2 stand in an image.
+pub const CHV1: usize = 2;
+
+pub const CHV2: usize = 22;
+
 // Two bytes, high byte first.
 fn join(high: u8, low: u8) -> u16
     ensures { λ r. ⌜ r ≡ high * 256 + low ⌝ }

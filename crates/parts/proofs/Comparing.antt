@@ -10,7 +10,7 @@ use lib.ListN.{length, getD, drop, drop-of-length-le}
 use lib.Seq.{drop-cons, drop-length, getD-take, getD-drop}
 use borrow.Author.Tests.{eq-eqb, ne-eqb, eqb-true}
 use Rattle.card.specs.Bytes.{same, part}
-use Rattle.parts.proofs.Splices.{length-part}
+use Rattle.card.proofs.Parts.{length-part}
 
 -- n bytes from a place on, and a pattern of n bytes
 module _ (b pattern : List ℕ) (at : ℕ) (h : at + length pattern ≤ length b) where

@@ -8,9 +8,7 @@ use lib.ListN.{length, take, drop, length-drop, drop-of-length-le}
 use lib.Seq.{take-length, length-take-le}
 use Rattle.card.specs.Bytes.{part, splice}
 use Rattle.card.specs.Answers.{laid}
-
-pub length-part : (l : List ℕ) (at n : ℕ) → at + n ≤ length l → length (part l at n) ≡ n
-length-part l at n h = length-take-le n (drop at l) (simp length-drop (omega arith))
+use Rattle.card.proofs.Parts.{length-part}
 
 -- all of a list, copied over as many bytes, is laid
 pub copied : (new to was : List ℕ) (n : ℕ) → n ≡ length new → to ≡ take n new ++ drop n was → to ≡ laid was new

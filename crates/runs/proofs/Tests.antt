@@ -12,7 +12,7 @@ use Rattle.card.specs.declared.Session.{Session}
 use Rattle.card.proofs.Tests.{both, joint, same-test}
 use Rattle.acts.specs.Ready.{Ready}
 use Rattle.shelf_check.specs.Examined.{examined}
-use Rattle.shelf_check.proofs.Examining.{no-fault}
+use Rattle.shelf_check.proofs.Examining.{by-tests}
 
 module _ {l : List ℕ} {s : Session} where
   pub passed : Ready l s → (true ≡ (isImage l && fits (head l) s)) × (true ≡ true → Ready l s)
@@ -22,4 +22,4 @@ module _ {l : List ℕ} {s : Session} where
   stopped e other = (same-test false (isImage l && fits (head l) s) (λ k. absurd (false≢true k)) against, λ k. absurd (false≢true k))
     where
       against : (isImage l && fits (head l) s) ≡ true → false ≡ true
-      against t = let h = both (isImage l) (fits (head l) s) t in absurd (other (e ∙ sym (no-fault l s (h .0) (h .1))))
+      against t = let h = both (isImage l) (fits (head l) s) t in absurd (other (e ∙ sym (by-tests l s (h .0) (h .1))))

@@ -1,6 +1,6 @@
 -- Laws of an examination: its ways out, and what its answer says.
 use Prim.Native.Nat.{ℕ}
-use mathlib.Core.Path.{_≡_, refl, ap, subst}
+use mathlib.Core.Path.{_≡_, refl, sym, ap, ap₂, subst}
 use mathlib.Core.List.{List, [], _∷_}
 use mathlib.Core.Bool.{Bool, true, false}
 use native.Mathlib.Omega.{arith}
@@ -11,23 +11,16 @@ use Rattle.card.specs.Layout.{head}
 use Rattle.card.specs.Sessions.{fits}
 use Rattle.card.specs.Shelf.{isImage}
 use Rattle.card.specs.declared.Answer.{Answer}
-use Rattle.card.specs.declared.Answer.the-variants.{Played, NotAnImage, DoesNotFit}
+use Rattle.card.specs.declared.Answer.the-variants.{Played}
 use Rattle.card.specs.declared.Session.{Session}
 use Rattle.card.proofs.Answer.{the-type}
 use Rattle.shelf_check.specs.Examined.{answerOf, examined}
 
 module _ (l : List ℕ) (s : Session) where
-  pub no-image : isImage l ≡ false → NotAnImage ≡ examined l s
+  -- the answer is that of what both tests found
+  pub by-tests : {b f : Bool} → isImage l ≡ b → fits (head l) s ≡ f → answerOf b f ≡ examined l s
   unfolding examined
-  no-image e = simp (examined, e)
-
-  pub no-fit : isImage l ≡ true → fits (head l) s ≡ false → DoesNotFit ≡ examined l s
-  unfolding examined
-  no-fit e f = simp (examined, e, f)
-
-  pub no-fault : isImage l ≡ true → fits (head l) s ≡ true → Played ≡ examined l s
-  unfolding examined
-  no-fault e f = simp (examined, e, f)
+  by-tests e g = sym (ap₂ answerOf e g)
 
   -- where nothing is in the way both tests hold
   pub both-hold : Played ≡ examined l s → (isImage l ≡ true) × (fits (head l) s ≡ true)

@@ -10,9 +10,8 @@ ghost use Rattle.shelf_check.specs.Whole.{Whole};
 use crate::marks;
 use crate::rules;
 use card::Index;
-
-// Where the codes' entries start.
-const CODES: usize = 2;
+use entries::CHV1;
+use entries::CHV2;
 
 // Whether the counts are an image's, and every section but the last is all there. Then no entry's place is tested again.
 pub fn whole(image: &[u8], i: Index) -> bool
@@ -33,10 +32,10 @@ pub fn codes_sound(image: &[u8], i: Index) -> bool
     requires { ⌜ Whole (now image) i ⌝ }
     ensures { λ r. ⌜ r ≡ codesSound (now (image .entry)) ⌝ }
 {
-    if !rules::code_rules(0, entries::code(image, CODES)) {
+    if !rules::code_rules(0, entries::code(image, CHV1)) {
         return false;
     }
-    rules::code_rules(1, entries::code(image, CODES + 20))
+    rules::code_rules(1, entries::code(image, CHV2))
 }
 
 // Every directory keeps its rules. One pass: the keys of those before it are marked.

@@ -13,6 +13,7 @@ use card::Directory;
 use card::Entry;
 use card::Index;
 use entries::records;
+use parts::wide;
 
 // A directory that starts 7F stands in one that starts 3F, and 5F in 7F.
 fn below(parent: u16, child: u16) -> bool
@@ -97,16 +98,9 @@ fn size_rule(e: Entry) -> bool
     (0 < e.width) & (remainder(size, width) == 0) & (0 < n) & (n < 255)
 }
 
-// A byte as a number that more can be added to.
-fn wide(b: u8) -> u32
-    ensures { λ r. ⌜ (r ≡ b) × (r < 256) ⌝ }
-{
-    b as u32
-}
-
 // A sum of what must be 0 in every file, so that one test does for all: the number of its directory above 31, the spare byte, and the
 // bits of status and access that may not be set.
-fn zeros(e: Entry) -> u32
+fn zeros(e: Entry) -> usize
     ensures { λ r. ⌜ eqb r 0 ≡ zeroRules e ⌝ }
 {
     let status = wide(e.status);

@@ -11,12 +11,9 @@ use card::Code;
 use card::Directory;
 use card::Entry;
 use card::Index;
+use entries::CHV1;
+use entries::CHV2;
 use shelf::read;
-
-// Where the codes' entries stand.
-const CHV1: usize = 2;
-
-const CHV2: usize = 22;
 
 // A word's two bytes.
 fn high(w: u16) -> u8

@@ -16,9 +16,6 @@ returns : tie.Need-returns
 unfolding code
 returns c = codes-fail _ _ (c .before .before .before .before .pre) _ _ (c .before .before .code .ensures) (c .before .code-rules .ensures) (c .if1 .taken)
 
-add-code : tie.Need-add-code
-add-code c = search needs
-
 code-requires-2 : tie.Need-code-requires-2
 code-requires-2 c κs = let p = codes-inside _ _ (c .before .before .before .before .pre) in omega arith
 
@@ -38,7 +35,6 @@ codes-sound-spec =
     code-requires
     code-rules-requires
     returns
-    add-code
     code-requires-2
     code-rules-requires-2
     returns-2)
