@@ -18,7 +18,7 @@ use Rattle.card.proofs.Tests.{both, joint, one-of, where-true, where-false, dec
 use Rattle.shelf_check.specs.Marks.{marked, Adds, Holds}
 use Rattle.shelf_check.specs.Apart.{ownDirectory, directoryKey}
 use Rattle.shelf_check.proofs.OneEntry.{key-master, key-other}
-use Rattle.shelf_check.proofs.Keys.{taken-out, fails, decides, holds-more}
+use Rattle.shelf_check.proofs.Keys.{Pass, taken-out, pass-more}
 
 pub directory-split : (l : List ℕ) (d : ℕ) (e : Directory)
     → all (directoryRules l d e) ≡ (ownDirectory l d e && none d (λ c. twins (directory l c) e))
@@ -95,10 +95,10 @@ module _ (l : List ℕ) where
     unfolding twins
     beside-other z = same-test _ _ to from
       where
-        x : 32 * (a .identifier % 256) + a .parent ≡ directoryKey k a
+        x : a .identifier % 256 + 256 * a .parent ≡ directoryKey k a
         x = key-other k a z
 
-        y : 32 * (b .identifier % 256) + b .parent ≡ directoryKey d b
+        y : b .identifier % 256 + 256 * b .parent ≡ directoryKey d b
         y = key-other d b (λ o. omega arith)
 
         to : (eqb (a .parent) (b .parent) && eqb (a .identifier) (b .identifier)) ≡ true → eqb (directoryKey k a) (directoryKey d b) ≡ true
@@ -141,30 +141,11 @@ module _ (l : List ℕ) where
       omega arith)
       (decided (eqb d 0))
 
-  -- directory d, of entry e, whose own rules were found to hold or not
-  module _ (d : ℕ) (e : Directory) (r : Bool) (is : e ≡ directory l d) (own : r ≡ ownDirectory l d e) where
-    pub directory-fails : not r ≡ true → directoryKeeps l d ≡ false
-    directory-fails h =
-        fails 32 (directoryKeeps l) (ownOf l) (λ k n. twins (directory l k) (directory l n)) (directoryKeys l)
-        (λ n. directory-split l n (directory l n)) directories-alike d
-        (ap (λ x. ownDirectory l d x) (sym is) ∙ sym own ∙ not-true r h)
-
-    -- and whose key was found among the marks or not
-    pub directory-decides : {m : List ℕ} (x : ℕ) (t : Bool) → d < 32 → every d (directoryKeeps l) ≡ true → not r ≡ false → Holds m (directoryKeys l) d
-        → x ≡ directoryKey d e → t ≡ marked m x
-        → directoryKeeps l d ≡ not t
-    directory-decides {m} x t few before h held key met =
-        let q : ownDirectory l d (directory l d) ≡ true = ap (λ y. ownDirectory l d y) (sym is) ∙ sym own ∙ not-false r h in
-        decides 32 (directoryKeeps l) (ownOf l) (λ k n. twins (directory l k) (directory l n)) (directoryKeys l)
-        (λ n. directory-split l n (directory l n)) directories-alike d few before q (directory-key d _ few q) held
-        ∙ ap (λ y. not (marked m (directoryKey d y))) (sym is)
-        ∙ ap (λ y. not (marked m y)) (sym key)
-        ∙ ap not (sym met)
-
-    pub directory-small : (x : ℕ) → d < 32 → not r ≡ false → x ≡ directoryKey d e → x < 8192
-    directory-small x few h key = rw key (directory-key d e few (sym own ∙ not-false r h))
-
-    pub directory-holds : {m m′ : List ℕ} (x : ℕ) → Holds m (directoryKeys l) d → x ≡ directoryKey d e → Adds m x m′
-        → Holds m′ (directoryKeys l) (d + 1)
-    directory-holds {m} {m′} x held key a =
-        holds-more (directoryKeys l) held (subst (λ y. Adds m y m′) (key ∙ ap (λ z. directoryKey d z) is) a)
+  -- directory d, of entry e
+  pub directory-pass : {m m′ : List ℕ} {d : ℕ} {e : Directory} {s r t : Bool} {y : ℕ} → d < 32 → e ≡ directory l d → r ≡ ownDirectory l d e → y ≡ directoryKey d e
+      → Pass (directoryKeeps l) (directoryKeys l) d s m → t ≡ marked m (y % 8192) → Adds m (y % 8192) m′
+      → Pass (directoryKeeps l) (directoryKeys l) (d + 1) (s && r && not t) m′
+  directory-pass {d = d} few is own key =
+      pass-more 32 (directoryKeeps l) (ownOf l) (λ k n. twins (directory l k) (directory l n)) (directoryKeys l)
+      (λ n. directory-split l n (directory l n)) directories-alike (λ n. directory-key n (directory l n)) few
+      (own ∙ ap (λ x. ownDirectory l d x) is) (key ∙ ap (λ x. directoryKey d x) is)

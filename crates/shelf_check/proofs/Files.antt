@@ -16,7 +16,7 @@ use Rattle.card.specs.declared.Entry.{Entry}
 use Rattle.card.proofs.Tests.{both, joint, decided, same-test, all-at}
 use Rattle.shelf_check.specs.Marks.{marked, Adds, Holds}
 use Rattle.shelf_check.specs.Apart.{ownFile, fileKey}
-use Rattle.shelf_check.proofs.Keys.{taken-out, fails, decides, holds-more}
+use Rattle.shelf_check.proofs.Keys.{Pass, taken-out, pass-more}
 
 pub file-split : (l : List ℕ) (f : ℕ) (e : Entry) → all (fileRules l f e) ≡ (ownFile l e && none f (λ g. twinFiles (file l g) e))
 unfolding fileRules ownFile
@@ -42,11 +42,6 @@ ownOf l f = ownFile l (file l f)
 
 abbrev pub fileKeys : List ℕ → ℕ → ℕ
 fileKeys l f = fileKey (file l f)
-
--- a test that must hold and one that must not, with one way out
-passed : (r t : Bool) → (not r || t) ≡ false → r ≡ true
-passed true t h = refl
-passed false t h = absurd (true≢false h)
 
 module _ (l : List ℕ) (some : index l .directories ≤ 32) where
   beside : (a b : Entry) → Housed l a → Housed l b → twinFiles a b ≡ eqb (fileKey a) (fileKey b)
@@ -80,36 +75,11 @@ module _ (l : List ℕ) (some : index l .directories ≤ 32) where
   unfolding fileKey
   file-key e h = let p = housed l e h .home in omega arith
 
-  -- File f, of entry e, whose own rules were found to hold or not, and whose key, cut to what can be marked, was found among the marks
-  -- or not. Where its own rules hold the key was not cut.
-  module _ (f : ℕ) (e : Entry) (r t : Bool) (is : e ≡ file l f) (own : r ≡ ownFile l e) where
-    uncut : (x : ℕ) → r ≡ true → x ≡ fileKey e → x % 8192 ≡ fileKeys l f
-    uncut x h key =
-        let small : fileKey e < 8192 = file-key e (sym own ∙ h) in
-        let low : x % 8192 ≡ fileKey e = omega arith in
-        low ∙ ap (λ y. fileKey y) is
-
-    pub file-decides : {m : List ℕ} (x : ℕ) → f < 65536 → every f (fileKeeps l) ≡ true → Holds m (fileKeys l) f
-        → x ≡ fileKey e → t ≡ marked m (x % 8192)
-        → fileKeeps l f ≡ not (not r || t)
-    file-decides {m} x few before held key met = go (decided r)
-      where
-        mine : ownFile l (file l f) ≡ r
-        mine = ap (λ y. ownFile l y) (sym is) ∙ sym own
-
-        go : (r ≡ true) ⊎ (r ≡ false) → fileKeeps l f ≡ not (not r || t)
-        go (inl h) =
-            decides 65536 (fileKeeps l) (ownOf l) (λ k n. twinFiles (file l k) (file l n)) (fileKeys l)
-            (λ n. file-split l n (file l n)) files-alike f few before (mine ∙ h) (file-key _ (mine ∙ h)) held
-            ∙ ap (λ y. not (marked m y)) (sym (uncut x h key))
-            ∙ ap not (sym met)
-            ∙ ap (λ y. not (not y || t)) (sym h)
-        go (inr h) =
-            fails 65536 (fileKeeps l) (ownOf l) (λ k n. twinFiles (file l k) (file l n)) (fileKeys l)
-            (λ n. file-split l n (file l n)) files-alike f (mine ∙ h)
-            ∙ ap (λ y. not (not y || t)) (sym h)
-
-    pub file-holds : {m m′ : List ℕ} (x : ℕ) → (not r || t) ≡ false → Holds m (fileKeys l) f → x ≡ fileKey e → Adds m (x % 8192) m′
-        → Holds m′ (fileKeys l) (f + 1)
-    file-holds {m} {m′} x h held key a =
-        holds-more (fileKeys l) held (subst (λ y. Adds m y m′) (uncut x (passed r t h) key) a)
+  -- file f, of entry e
+  pub file-pass : {m m′ : List ℕ} {f : ℕ} {e : Entry} {s r t : Bool} {y : ℕ} → f < 65536 → e ≡ file l f → r ≡ ownFile l e → y ≡ fileKey e
+      → Pass (fileKeeps l) (fileKeys l) f s m → t ≡ marked m (y % 8192) → Adds m (y % 8192) m′
+      → Pass (fileKeeps l) (fileKeys l) (f + 1) (s && r && not t) m′
+  file-pass few is own key =
+      pass-more 65536 (fileKeeps l) (ownOf l) (λ k n. twinFiles (file l k) (file l n)) (fileKeys l)
+      (λ n. file-split l n (file l n)) files-alike (λ n lt. file-key (file l n)) few
+      (own ∙ ap (λ x. ownFile l x) is) (key ∙ ap (λ x. fileKey x) is)

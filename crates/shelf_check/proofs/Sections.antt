@@ -61,13 +61,13 @@ same-count a b = same-test _ _ to from
         eq-eqb a b (omega arith)
 
 module _ (l : List ℕ) (n : ℕ) where
-  pub tally-fails : (f : ℕ) → f < n → fileKeeps l f ≡ false → Unsound ≡ tally l n
+  pub tally-fails : every n (fileKeeps l) ≡ false → Unsound ≡ tally l n
   unfolding tally
-  tally-fails f lt h = simp (tally, ← every-not (fileKeeps l) n f lt h)
+  tally-fails h = simp (tally, h)
 
-  pub tally-sum : (f sum : ℕ) → f ≤ n → n ≤ f → every f (fileKeeps l) ≡ true → sum ≡ sizes l f → Sum sum ≡ tally l n
+  pub tally-sum : (f sum : ℕ) → f ≤ n → n ≤ f → every n (fileKeeps l) ≡ true → sum ≡ sizes l f → Sum sum ≡ tally l n
   unfolding tally
-  tally-sum f sum a b h e = let k : f ≡ n = omega arith in rw (← k) (simp (tally, h, e))
+  tally-sum f sum a b h e = let k : f ≡ n = omega arith in let x : sum ≡ sizes l n = rw (← k) e in simp (tally, h, x)
 
   unsound : (b : Bool) (s : ℕ) → elim b [ true ↦ Sum s | false ↦ Unsound ] ≡ Unsound → b ≡ false
   unsound true s h = let z : _≡_ {A = ℕ} 0 1 = cc in absurd (omega arith)

@@ -33,9 +33,9 @@ zeroRules e = ltb (e .home) 32 && picked (2 ∷ 8 ∷ 9 ∷ []) (fileRules [] 0 
 unfoldable pub structureRules : Entry → Bool
 structureRules e = picked (1 ∷ 5 ∷ 6 ∷ 7 ∷ 10 ∷ []) (fileRules [] 0 e)
 
--- The master file stands in no directory. Number 31, which is too high for a parent, stands for that.
+-- The master file stands in no directory. Number 31, which is too high for a parent, stands for that: 7936 is 256 * 31.
 unfoldable pub directoryKey : ℕ → Directory → ℕ
-directoryKey d e = elim (eqb d 0) [ true ↦ 31 | false ↦ 32 * (e .identifier % 256) + e .parent ]
+directoryKey d e = elim (eqb d 0) [ true ↦ 7936 | false ↦ e .identifier % 256 + 256 * e .parent ]
 
 unfoldable pub fileKey : Entry → ℕ
-fileKey e = 32 * (e .identifier % 256) + e .home
+fileKey e = e .identifier % 256 + 256 * e .home

@@ -1,9 +1,10 @@
 // The rules of one entry.
 ghost use mathlib.Core.Path.{_≡_};
+ghost use mathlib.Core.Bool.{_&&_};
 ghost use mathlib.Core.List.{List};
 ghost use Prim.Native.Nat.{ℕ, _<_, _/_, _%_};
-ghost use lib.Dec.{eqb};
-ghost use Rattle.card.specs.Layout.{index, directory};
+ghost use lib.Dec.{eqb, ltb};
+ghost use Rattle.card.specs.Layout.{index, directory, records};
 ghost use Rattle.card.specs.Shelf.{all, codeRules, below, within, recordsRule};
 ghost use Rattle.shelf_check.specs.Apart.{ownDirectory, ownFile, zeroRules, structureRules, directoryKey, fileKey};
 ghost use Rattle.shelf_check.specs.Homes.{Homes};
@@ -75,27 +76,10 @@ pub fn directory_key(d: usize, e: Directory) -> usize
     ensures { λ r. ⌜ r ≡ directoryKey d e ⌝ }
 {
     if d == 0 {
-        31
+        7936
     } else {
-        32 * ((e.identifier % 256) as usize) + (e.parent as usize)
+        ((e.identifier % 256) as usize) + 256 * (e.parent as usize)
     }
-}
-
-// What is left of a whole in parts; 0 goes into nothing.
-fn remainder(whole: usize, part: usize) -> usize
-    ensures { λ r. ⌜ r ≡ whole % part ⌝ }
-{
-    if part == 0 { whole } else { whole % part }
-}
-
-// Record length 1 to 255, and 1 to 254 whole records.
-fn size_rule(e: Entry) -> bool
-    ensures { λ r. ⌜ r ≡ recordsRule e ⌝ }
-{
-    let size = e.size as usize;
-    let width = e.width as usize;
-    let n = records(e);
-    (0 < e.width) & (remainder(size, width) == 0) & (0 < n) & (n < 255)
 }
 
 // A sum of what must be 0 in every file, so that one test does for all: the number of its directory above 31, the spare byte, and the
@@ -107,47 +91,42 @@ fn zeros(e: Entry) -> usize
     wide(e.home) / 32 + wide(e.spare) + status / 2 % 2 + status / 8 + wide(e.access2) % 16
 }
 
-// A file's other bytes, by its structure.
+// A file without a record length.
 fn transparent_rules(e: Entry) -> bool
-    requires { ⌜ e .structure ≡ 0 ⌝ }
+    requires { ⌜ e .width ≡ 0 ⌝ }
     ensures { λ r. ⌜ r ≡ structureRules e ⌝ }
 {
-    (0 < e.size) & (wide(e.width) + wide(e.increase) + wide(e.top) == 0)
+    (0 < e.size) & (wide(e.structure) + wide(e.increase) + wide(e.top) == 0)
 }
 
-fn linear_rules(e: Entry) -> bool
-    requires { ⌜ e .structure ≡ 1 ⌝ }
-    ensures { λ r. ⌜ r ≡ structureRules e ⌝ }
+// 1 to 254 whole records, and the top is one of them.
+fn size_rule(e: Entry) -> bool
+    ensures { λ r. ⌜ r ≡ (recordsRule e && ltb (e .top) (records e)) ⌝ }
 {
-    size_rule(e) & (wide(e.increase) + wide(e.top) == 0)
+    let n = records(e);
+    (n * wide(e.width) == (e.size as usize)) & (n < 255) & (wide(e.top) < n)
 }
 
-fn cyclic_rules(e: Entry) -> bool
-    requires { ⌜ e .structure ≡ 3 ⌝ }
+// A file with one.
+fn record_rules(e: Entry) -> bool
+    requires { ⌜ 0 < e .width ⌝ }
     ensures { λ r. ⌜ r ≡ structureRules e ⌝ }
 {
+    let structure = wide(e.structure);
+    let increase = wide(e.increase);
     size_rule(e)
-        & ((e.increase == 0) | ((e.increase == 0x40) & (e.width == 3)))
-        & ((e.top as usize) < records(e))
+        & ((structure == 3) | ((structure == 1) & (increase + wide(e.top) == 0)))
+        & ((increase == 0) | ((increase == 0x40) & (e.width == 3)))
 }
 
-// Where records have no length nothing is divided.
+// What a file's structure asks. Only where records have a length something is divided; all else is joined by `&`, without a branch.
 fn structure_rules(e: Entry) -> bool
     ensures { λ r. ⌜ r ≡ structureRules e ⌝ }
 {
-    if e.structure == 0 {
+    if e.width == 0 {
         return transparent_rules(e);
     }
-    if e.width == 0 {
-        return false;
-    }
-    if e.structure == 1 {
-        return linear_rules(e);
-    }
-    if e.structure == 3 {
-        return cyclic_rules(e);
-    }
-    false
+    record_rules(e)
 }
 
 // A file, whose entry is e, but for twins. The table tells what its identifier starts with; a directory that is not there has no byte
@@ -157,13 +136,13 @@ pub fn file_rules(homes: &[u16; 32], e: Entry) -> bool
 {
     let home = e.home as usize;
     let high = e.identifier / 256;
-    let placed = (high == homes[home % 32]) & (zeros(e) == 0);
-    placed & structure_rules(e)
+    let own = structure_rules(e);
+    (high == homes[home % 32]) & (zeros(e) == 0) & own
 }
 
 // What tells a file from the others.
 pub fn file_key(e: Entry) -> usize
     ensures { λ r. ⌜ r ≡ fileKey e ⌝ }
 {
-    32 * ((e.identifier % 256) as usize) + (e.home as usize)
+    ((e.identifier % 256) as usize) + 256 * (e.home as usize)
 }

@@ -7,11 +7,11 @@ use Rattle.shelf_check.proofs.rules.directory_key.Tie as tie
 cast-result : tie.Need-cast-result
 cast-result c = search needs
 
-mul-result : tie.Need-mul-result
-mul-result c = search needs
-
 cast-result-2 : tie.Need-cast-result-2
 cast-result-2 c = search needs
+
+mul-result : tie.Need-mul-result
+mul-result c = search needs
 
 add-result : tie.Need-add-result
 add-result c = search needs
@@ -24,4 +24,4 @@ returns-2 c = key-other _ _ (c .before .before .if1 .left)
 
 pub directory-key-spec : {M : Type 1} → statement M
 directory-key-spec =
-    tie.close (tie.spec cast-result mul-result cast-result-2 add-result returns returns-2)
+    tie.close (tie.spec cast-result cast-result-2 mul-result add-result returns returns-2)

@@ -8,11 +8,11 @@ use Rattle.shelf_check.proofs.rules.file_key.Tie as tie
 cast-result : tie.Need-cast-result
 cast-result c = search needs
 
-mul-result : tie.Need-mul-result
-mul-result c = search needs
-
 cast-result-2 : tie.Need-cast-result-2
 cast-result-2 c = search needs
+
+mul-result : tie.Need-mul-result
+mul-result c = search needs
 
 add-result : tie.Need-add-result
 add-result c = search needs
@@ -22,4 +22,4 @@ unfolding fileKey
 returns c = refl
 
 pub file-key-spec : {M : Type 1} → statement M
-file-key-spec = tie.close (tie.spec cast-result mul-result cast-result-2 add-result returns)
+file-key-spec = tie.close (tie.spec cast-result cast-result-2 mul-result add-result returns)
