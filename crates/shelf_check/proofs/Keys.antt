@@ -80,9 +80,14 @@ pub record Pass (rules : ℕ → Bool) (key : ℕ → ℕ) (n : ℕ) (sound : Bo
   pub held : sound ≡ true → Holds m key n
 
 module _ (rules : ℕ → Bool) (key : ℕ → ℕ) where
-  pub pass-none : Pass rules key 0 true (replicate 256 0)
+  -- no mark yet
+  pub pass-none : {m : List ℕ} → m ≡ replicate 256 0 → Pass rules key 0 true m
   unfolding every
-  pass-none = let h = holds-none key in record { is = refl; size = h .size; held = λ t. h }
+  pass-none e = let h = holds-none key in rw e (record { is = refl; size = h .size; held = λ t. h })
+
+  -- the marks are as many as before
+  pub pass-size : {s : Bool} {n : ℕ} {m m₀ : List ℕ} → m₀ ≡ replicate 256 0 → Pass rules key n s m → length m ≡ length m₀
+  pass-size e p = rw e (p .size ∙ sym (length-replicate {A = ℕ} 256 0))
 
   pub pass-end : {s : Bool} {m : List ℕ} (n i : ℕ) → i ≤ n → n ≤ i → Pass rules key i s m → s ≡ every n rules
   pass-end n i a b p = let e : i ≡ n = omega arith in rw (← e) (p .is)

@@ -1,6 +1,7 @@
 // The four sections of an image, each whole and sound.
 ghost use mathlib.Core.Path.{_≡_};
 ghost use mathlib.Core.Bool.{true, false, _&&_};
+ghost use lib.ListN.{replicate};
 ghost use Rattle.card.specs.Layout.{index, sizes};
 ghost use Rattle.card.specs.Shelf.{codesSound, directoriesSound, filesSound, bytesSound, isImage};
 ghost use Rattle.shelf.specs.Reads.{Indexed};
@@ -38,19 +39,19 @@ pub fn codes_sound(image: &[u8], i: Index) -> bool
     rules::code_rules(1, entries::code(image, CHV2))
 }
 
-// Every directory keeps its rules. One pass: the keys of those before it are marked. The pass goes on where a rule fails, since one
-// test at the end takes less time than one in each round; what is marked from then on does not matter.
-pub fn directories_sound(image: &[u8], i: Index) -> bool
+// Every directory keeps its rules. One pass, with no mark at first: the keys of those before it are marked. The pass goes on where a
+// rule fails, since one test at the end takes less time than one in each round; what is marked from then on does not matter.
+pub fn directories_sound(image: &[u8], i: Index, marks: &mut [u32]) -> bool
     requires { ⌜ Whole (now image) i ⌝ }
+    requires { ⌜ now marks ≡ replicate 256 0 ⌝ }
     ensures { λ r. ⌜ r ≡ directoriesSound (now (image .entry)) ⌝ }
 {
     let n = i.directories;
-    let mut marks: [u32; 256] = [0; 256];
     let mut sound = true;
     let mut d = 0;
     while d < n {
         let e = entries::directory(image, i.tree + 8 * d);
-        let met = marks::meet(&mut marks, rules::directory_key(d, e) % 8192);
+        let met = marks::meet(marks, rules::directory_key(d, e) % 8192);
         let own = rules::directory_rules(image, i, d, e);
         sound = sound & own & !met;
         d += 1;
@@ -80,19 +81,19 @@ fn homes(image: &[u8], i: Index) -> [u16; 32]
 }
 
 // One pass, as over the directories.
-fn each_file(image: &[u8], i: Index) -> Tally
+fn each_file(image: &[u8], i: Index, marks: &mut [u32]) -> Tally
     requires { ⌜ Whole (now image) i ⌝ }
+    requires { ⌜ now marks ≡ replicate 256 0 ⌝ }
     ensures { λ r. ⌜ r ≡ tally (now (image .entry)) (i .files) ⌝ }
 {
     let n = i.files;
     let homes = homes(image, i);
-    let mut marks: [u32; 256] = [0; 256];
     let mut sound = true;
     let mut sum: usize = 0;
     let mut f = 0;
     while f < n {
         let e = entries::file(image, i.table + 14 * f);
-        let met = marks::meet(&mut marks, rules::file_key(e) % 8192);
+        let met = marks::meet(marks, rules::file_key(e) % 8192);
         let own = rules::file_rules(&homes, e);
         sound = sound & own & !met;
         sum += e.size as usize;
@@ -120,11 +121,12 @@ fn bytes_sound(image: &[u8], i: Index, sum: usize) -> bool
 }
 
 // The last two sections.
-pub fn files_sound(image: &[u8], i: Index) -> bool
+pub fn files_sound(image: &[u8], i: Index, marks: &mut [u32]) -> bool
     requires { ⌜ Whole (now image) i ⌝ }
+    requires { ⌜ now marks ≡ replicate 256 0 ⌝ }
     ensures { λ r. ⌜ r ≡ (filesSound (now (image .entry)) && bytesSound (now (image .entry))) ⌝ }
 {
-    let t = each_file(image, i);
+    let t = each_file(image, i, marks);
     match t {
         Tally::Unsound => false,
         Tally::Sum(sum) => bytes_sound(image, i, sum),

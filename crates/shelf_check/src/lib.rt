@@ -13,7 +13,7 @@ use card::Index;
 use card::Session;
 use shelf::read;
 
-// Section by section, once the counts and the length are an image's.
+// Section by section, once the counts and the length are an image's. The marks of both passes are cleared at once.
 fn sound(image: &[u8], i: Index) -> bool
     requires { ⌜ Whole (now image) i ⌝ }
     ensures { λ r. ⌜ r ≡ isImage (now (image .entry)) ⌝ }
@@ -21,10 +21,11 @@ fn sound(image: &[u8], i: Index) -> bool
     if !check::codes_sound(image, i) {
         return false;
     }
-    if !check::directories_sound(image, i) {
+    let mut marks: [u32; 512] = [0; 512];
+    if !check::directories_sound(image, i, &mut marks[256..]) {
         return false;
     }
-    check::files_sound(image, i)
+    check::files_sound(image, i, &mut marks[..256])
 }
 
 // Whether some bytes are an image, whatever bytes they are.

@@ -5,7 +5,7 @@ ghost use lib.ListN.{length};
 ghost use Rattle.shelf_check.specs.Marks.{marked, Adds};
 
 // Whether a key was marked; from now on it is.
-pub fn meet(marks: &mut [u32; 256], key: usize) -> bool
+pub fn meet(marks: &mut [u32], key: usize) -> bool
     requires { ⌜ (key < 8192) × (length (now marks) ≡ 256) ⌝ }
     ensures { λ r. ⌜ r ≡ marked (now (marks .entry)) key ⌝ }
     ensures { λ r. ⌜ Adds (now (marks .entry)) key (now (marks .exit)) ⌝ }

@@ -14,15 +14,29 @@ enum-known-t : tie.Need-enum-known-t
 enum-known-t c = search needs
 
 bytes-sound-requires : tie.Need-bytes-sound-requires
-bytes-sound-requires c κs = (c .before .before .before .before .before .pre, tally-is _ _ _ (c .before .before .before .each-file .ensures) _ (c .before .t .given .1) .1)
+bytes-sound-requires c κs = (c .before .before .before .before .before .before .before .before .before .pre .0, tally-is _ _ _ (c .before .before .before .before .before .each-file .ensures) _ (c .before .t .given .1) .1)
+
+same-length : tie.Need-same-length
+same-length c = search needs
 
 returns : tie.Need-returns
-returns c = files-fail _ _ (c .before .before .before .before .pre) (tally-not _ _ _ (c .before .before .each-file .ensures) (c .enum-told .given .1))
+returns c = files-fail _ _ (c .before .before .before .before .before .before .before .before .pre .0) (tally-not _ _ _ (c .before .before .before .before .each-file .ensures) (c .enum-told .given .1))
+
+same-length-2 : tie.Need-same-length-2
+same-length-2 c = search needs
 
 returns-2 : tie.Need-returns-2
-returns-2 c = files-then _ _ (c .before .before .before .before .before .before .pre) _ (tally-is _ _ _ (c .before .before .before .before .each-file .ensures) _ (c .before .before .t .given .1) .0) (c .bytes-sound .ensures)
+returns-2 c = files-then _ _ (c .before .before .before .before .before .before .before .before .before .before .pre .0) _ (tally-is _ _ _ (c .before .before .before .before .before .before .each-file .ensures) _ (c .before .before .t .given .1) .0) (c .bytes-sound .ensures)
 
 pub files-sound-spec : {M : Type 1} → statement M
 files-sound-spec =
     tie.close
-    (tie.spec each-file-requires enum-told enum-known-t bytes-sound-requires returns returns-2)
+    (tie.spec
+    each-file-requires
+    enum-told
+    enum-known-t
+    bytes-sound-requires
+    same-length
+    returns
+    same-length-2
+    returns-2)

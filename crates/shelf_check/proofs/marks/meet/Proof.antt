@@ -12,8 +12,8 @@ cast-n c = search needs
 mul-word : tie.Need-mul-word
 mul-word c = search needs
 
-element-copy-out-word : tie.Need-element-copy-out-word
-element-copy-out-word c = search needs
+slice-read-word : tie.Need-slice-read-word
+slice-read-word c = search needs
 
 shl-marks : tie.Need-shl-marks
 shl-marks c = search needs
@@ -21,11 +21,14 @@ shl-marks c = search needs
 mul-marks : tie.Need-mul-marks
 mul-marks c = search needs
 
-element-write-marks : tie.Need-element-write-marks
-element-write-marks c = search needs
+slice-write-marks : tie.Need-slice-write-marks
+slice-write-marks c = search needs
 
 shr-result : tie.Need-shr-result
 shr-result c = search needs
+
+same-length : tie.Need-same-length
+same-length c = search needs
 
 returns : tie.Need-returns
 unfolding marked raised
@@ -37,9 +40,10 @@ meet-spec =
     (tie.spec
     cast-n
     mul-word
-    element-copy-out-word
+    slice-read-word
     shl-marks
     mul-marks
-    element-write-marks
+    slice-write-marks
     shr-result
+    same-length
     returns)
