@@ -1,34 +1,10 @@
--- Laws of the loops over the numbers below n: whether all pass a test, how many do, and which is the first.
-use Prim.Native.Nat.{ℕ, zero, suc, _+_, _-_, _<_, _≤_}
-use mathlib.Core.Path.{_≡_, refl, sym, ap, _∙_}
-use mathlib.Core.Bool.{Bool, true, false, _&&_, and-false}
-use mathlib.Core.Logic.{⊎-elim}
+-- Laws of the loops over the numbers below n: how many pass a test, and which is the first.
+use Prim.Native.Nat.{ℕ, suc, _+_, _-_, _<_, _≤_}
+use mathlib.Core.Path.{_≡_, refl, sym, _∙_}
+use mathlib.Core.Bool.{Bool, true, false}
 use native.Mathlib.Omega.{arith}
-use native.Mathlib.Nat.{eq-or-lt-of-le}
 use native.Mathlib.Numerals.{add-one}
-use Rattle.card.specs.Bytes.{every, bit, howMany, firstFrom}
-
-module _ (p : ℕ → Bool) where
-  pub every-none : every 0 p ≡ true
-  unfolding every
-  every-none = refl
-
-  pub every-more : (i : ℕ) → every i p ≡ true → p i ≡ true → every (i + 1) p ≡ true
-  unfolding every
-  every-more i h t = rw (add-one i) (simp (h, t))
-
-  pub every-end : (n i : ℕ) → i ≤ n → n ≤ i → every i p ≡ true → true ≡ every n p
-  every-end n i a b h = let e : i ≡ n = omega arith in rw (← e) (sym h)
-
-  last-fails : (n i : ℕ) → i ≡ n → p i ≡ false → false ≡ (every n p && p n)
-  last-fails n i e h = simp (← e, h, and-false)
-
-  -- one that fails decides
-  pub every-not : (n i : ℕ) → i < n → p i ≡ false → false ≡ every n p
-  unfolding every
-  every-not zero i lt h = let z : ⊥ = omega arith in absurd z
-  every-not (suc n) i lt h =
-      ⊎-elim (λ e. last-fails n i e h) (λ a. rw (← every-not n i a h)) (eq-or-lt-of-le {n = i} {m = n} (omega arith))
+use Rattle.card.specs.Bytes.{bit, howMany, firstFrom}
 
 module _ (p : ℕ → Bool) where
   pub count-none : 0 ≡ howMany 0 p

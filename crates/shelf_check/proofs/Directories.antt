@@ -1,26 +1,25 @@
 -- Two directories that keep their own rules are twins exactly if their keys are equal; so a directory keeps its rules if it keeps its
 -- own and its key is not marked.
-use Prim.Native.Nat.{ℕ, zero, suc, _+_, _*_, _/_, _%_, _<_, _≤_}
-use mathlib.Core.Path.{_≡_, sym, ap, _∙_, subst}
-use mathlib.Core.List.{List, [], _∷_}
-use mathlib.Core.Bool.{Bool, true, false, _&&_, _||_, not, and-comm, and-assoc, and-false}
+use Prim.Native.Nat.{ℕ, _+_, _*_, _/_, _%_, _<_}
+use mathlib.Core.Path.{_≡_, sym, ap, _∙_}
+use mathlib.Core.List.{List}
+use mathlib.Core.Bool.{Bool, true, false, _&&_, not, and-false}
 use mathlib.Core.Logic.{_⊎_, inl, inr, ⊎-elim}
 use native.Mathlib.Omega.{arith}
-use borrow.Author.Tests.{eqb-true, eqb-false, eq-eqb, ne-eqb, ltb-true, not-true, not-false}
+use borrow.Author.Tests.{eqb-true, eqb-false, eq-eqb, ne-eqb, ltb-true}
 use lib.Dec.{eqb}
-use lib.ListN.{getD, set}
-use Rattle.card.specs.Bytes.{every, none}
-use Rattle.card.specs.Layout.{index, directory, file}
-use Rattle.card.specs.Shelf.{all, below, within, twins, twinFiles, directoryRules, fileRules}
+use lib.ListN.{set}
+use Rattle.card.specs.Bytes.{none}
+use Rattle.card.specs.Layout.{directory}
+use Rattle.card.specs.Shelf.{all, below, twins, directoryRules}
 use Rattle.card.specs.declared.Directory.{Directory}
-use Rattle.card.specs.declared.Entry.{Entry}
 use Rattle.card.proofs.Tests.{both, joint, one-of, where-true, where-false, decided, same-test, all-at}
-use Rattle.shelf_check.specs.Marks.{marked, Adds, Holds}
+use Rattle.shelf_check.specs.Marks.{marked, Adds}
 use Rattle.shelf_check.specs.Apart.{ownDirectory, directoryKey}
 use Rattle.shelf_check.proofs.OneEntry.{key-master, key-other}
 use Rattle.shelf_check.proofs.Keys.{Pass, taken-out, pass-more}
 
-pub directory-split : (l : List ℕ) (d : ℕ) (e : Directory)
+directory-split : (l : List ℕ) (d : ℕ) (e : Directory)
     → all (directoryRules l d e) ≡ (ownDirectory l d e && none d (λ c. twins (directory l c) e))
 unfolding directoryRules ownDirectory
 directory-split l d e = taken-out (directoryRules l d e) 6

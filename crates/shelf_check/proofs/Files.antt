@@ -1,24 +1,23 @@
 -- Two files that keep their own rules are twins exactly if their keys are equal; so a file keeps its rules if it keeps its own and its
 -- key is not marked.
 use Prim.Native.Nat.{ℕ, _+_, _/_, _%_, _<_, _≤_}
-use mathlib.Core.Path.{_≡_, refl, sym, ap, _∙_, subst}
+use mathlib.Core.Path.{_≡_, ap, _∙_}
 use mathlib.Core.List.{List}
-use mathlib.Core.Bool.{Bool, true, false, _&&_, _||_, not, true≢false}
-use mathlib.Core.Logic.{_⊎_, inl, inr}
+use mathlib.Core.Bool.{Bool, true, _&&_, not}
 use native.Mathlib.Omega.{arith}
 use borrow.Author.Tests.{eqb-true, eq-eqb, ltb-true}
 use lib.Dec.{eqb}
 use lib.ListN.{set}
-use Rattle.card.specs.Bytes.{every, none}
+use Rattle.card.specs.Bytes.{none}
 use Rattle.card.specs.Layout.{index, directory, file}
 use Rattle.card.specs.Shelf.{all, within, twinFiles, fileRules}
 use Rattle.card.specs.declared.Entry.{Entry}
-use Rattle.card.proofs.Tests.{both, joint, decided, same-test, all-at}
-use Rattle.shelf_check.specs.Marks.{marked, Adds, Holds}
+use Rattle.card.proofs.Tests.{both, joint, same-test, all-at}
+use Rattle.shelf_check.specs.Marks.{marked, Adds}
 use Rattle.shelf_check.specs.Apart.{ownFile, fileKey}
 use Rattle.shelf_check.proofs.Keys.{Pass, taken-out, pass-more}
 
-pub file-split : (l : List ℕ) (f : ℕ) (e : Entry) → all (fileRules l f e) ≡ (ownFile l e && none f (λ g. twinFiles (file l g) e))
+file-split : (l : List ℕ) (f : ℕ) (e : Entry) → all (fileRules l f e) ≡ (ownFile l e && none f (λ g. twinFiles (file l g) e))
 unfolding fileRules ownFile
 file-split l f e = taken-out (fileRules l f e) 4
 

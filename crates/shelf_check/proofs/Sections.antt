@@ -22,7 +22,6 @@ use Rattle.card.proofs.Places.{code-place, directory-place, file-place, section
 use Rattle.card.proofs.Tests.{both, joint, same-test, decided, apart}
 use Rattle.shelf.proofs.Heading.{file-read as entry-read}
 use Rattle.shelf.specs.Reads.{Indexed}
-use Rattle.shelf.proofs.Loops.{every-not}
 use Rattle.shelf_check.specs.Homes.{Homes}
 use Rattle.shelf_check.specs.Whole.{Whole}
 use Rattle.shelf_check.specs.Tallies.{tally}

@@ -17,7 +17,7 @@ use Rattle.card.proofs.Tests.{decided, same-test}
 use Rattle.shelf_check.specs.Marks.{raised, marked, Adds}
 
 -- two tests of equal numbers that hold together
-pub equal-tests : (a b a′ b′ : ℕ) → (a ≡ b → a′ ≡ b′) → (a′ ≡ b′ → a ≡ b) → eqb a b ≡ eqb a′ b′
+equal-tests : (a b a′ b′ : ℕ) → (a ≡ b → a′ ≡ b′) → (a′ ≡ b′ → a ≡ b) → eqb a b ≡ eqb a′ b′
 equal-tests a b a′ b′ p q =
     same-test _ _ (λ t. eq-eqb _ _ (p (eqb-true _ _ t))) (λ t. eq-eqb _ _ (q (eqb-true _ _ t)))
 
