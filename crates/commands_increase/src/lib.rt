@@ -41,7 +41,7 @@ fn amount_bytes(n: usize) -> [u8; 3]
     [high, middle, low]
 }
 
-// A sum's three bytes, the three that were added, and zeros after them.
+// A sum's three bytes, the three that were added, and zeros after them: as many bytes as a session has for those that wait.
 fn told_sum(n: usize, added: &[u8]) -> [u8; 22]
     requires { ⌜ (n < 16777216) × (length (now added) ≡ 3) ⌝ }
     ensures { λ r. ⌜ r ≡ amountBytes n ++ now (added .entry) ++ replicate 16 0 ⌝ }
@@ -93,6 +93,7 @@ pub fn increase_by(r: Rights, e: Entry, b: &mut [u8], s: Session, added: &[u8]) 
     let new = amount_bytes(sum);
     let top = push(e, b, &new);
     let told = told_sum(sum, added);
+    // the first place, told at run time: the records have three bytes
     let from = wide(e.width) - 3;
     let end = from + 22;
     let reply = silent(
