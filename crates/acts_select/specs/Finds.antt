@@ -1,4 +1,4 @@
--- What SELECT enters, by the number that it found.
+-- What SELECT enters, by the number that it found. The bytes on it stand from a place on, with zeros after them up to 22 bytes.
 use Prim.Native.Nat.{ℕ}
 use mathlib.Core.List.{List, _++_}
 use lib.ListN.{replicate}
@@ -10,7 +10,15 @@ use Rattle.acts_select.specs.declared.Found.{Found}
 
 -- directory d
 unfoldable pub foundDirectory : List ℕ → ℕ → Found
-foundDirectory h d = record { directory = d; current = Nothing; pointer = Undefined; told = directoryResponse h d; count = 22 }
+foundDirectory h d =
+    record {
+      directory = d;
+      current = Nothing;
+      pointer = Undefined;
+      told = replicate 7 0 ++ directoryResponse h d;
+      from = 7;
+      count = 22;
+    }
 
 -- file f, which lies in directory d
 unfoldable pub foundFile : List ℕ → ℕ → ℕ → Found
@@ -19,6 +27,7 @@ foundFile h d f =
       directory = d;
       current = File f;
       pointer = firstPointer (file h f);
-      told = fileResponse (file h f) ++ replicate 7 0;
+      told = fileResponse (file h f) ++ replicate 14 0;
+      from = 0;
       count = 15;
     }

@@ -20,12 +20,13 @@ ghost use Rattle.acts.specs.Leaves.{Tells};
 ghost use Rattle.acts.specs.Ready.{Ready};
 ghost use Rattle.acts_select.specs.Finds.{foundDirectory, foundFile};
 
-// What SELECT enters, and how many of these bytes tell of it.
+// What SELECT enters, from where the bytes on it stand in these, and how many they are.
 struct Found {
     directory: usize,
     current: Current,
     pointer: Pointer,
-    told: [u8; 22],
+    told: [u8; 29],
+    from: usize,
     count: usize,
 }
 
@@ -41,6 +42,7 @@ fn found_directory(head: &[u8], i: Index, d: usize) -> Found
         current: Current::Nothing,
         pointer: Pointer::Undefined,
         told,
+        from: 7,
         count: 22,
     }
 }
@@ -69,6 +71,7 @@ fn found_file(head: &[u8], i: Index, d: usize, f: usize) -> Found
         current: Current::File(f),
         pointer,
         told,
+        from: 0,
         count: 15,
     }
 }
@@ -96,7 +99,16 @@ pub fn select(image: &[u8], s: Session, id: u16) -> Reply
     let count = found.count;
     let current = found.current;
     let pointer = found.pointer;
-    selected(found.directory, current, pointer, &told[..count], s)
+    let from = found.from;
+    let end = from + 22;
+    selected(
+        found.directory,
+        current,
+        pointer,
+        &told[from..end],
+        count,
+        s,
+    )
 }
 
 // STATUS: the first n bytes on the current directory. Only this player's crates call it, after the tests of the image and the session.

@@ -1,13 +1,13 @@
 -- Laws of INCREASE: the bytes that wait, and the ways out.
-use Prim.Native.Nat.{ℕ, zero, suc, _+_, _-_, _%_, _≤_, _<_}
+use Prim.Native.Nat.{ℕ, _+_, _-_, _%_, _≤_, _<_}
 use mathlib.Core.Path.{_≡_, refl, sym, ap, _∙_}
 use mathlib.Core.List.{List, [], _∷_, _++_}
-use mathlib.Core.Bool.{true, false}
+use mathlib.Core.Bool.{true}
 use native.Mathlib.Omega.{arith}
-use lib.ListN.{length, getD, take}
+use lib.ListN.{length, getD, replicate, length-append}
 use lib.Seq.{take-length}
 use borrow.Author.Tests.{lt-ltb, le-ltb, not-false}
-use Rattle.card.specs.Bytes.{splice}
+use Rattle.card.specs.Bytes.{part, splice}
 use Rattle.card.specs.Layout.{counter, records}
 use Rattle.card.specs.Answers.{first, refusal, reply}
 use Rattle.card.specs.Access.{shared}
@@ -20,6 +20,7 @@ use Rattle.card.specs.declared.Rights.{Rights}
 use Rattle.card.specs.declared.Session.{Session}
 use Rattle.card.specs.declared.Pointer.{Pointer}
 use Rattle.card.specs.declared.Pointer.the-variants.{At}
+use Rattle.card.proofs.Parts.{length-part}
 use Rattle.commands.specs.declared.answers.Reply.{Reply as Told}
 use Rattle.commands.specs.Gives.{brief, Writes}
 use Rattle.commands_records.specs.Stands.{Recorded, Stands}
@@ -27,20 +28,28 @@ use Rattle.commands_increase.specs.Counts.{Counts}
 use Rattle.access.proofs.Refusals.{nothing, holding, passing, sharedFirst, sharedNone, sharedClear}
 use Rattle.commands.proofs.Replies.{unwritten, wrote}
 
--- six bytes, one by one
-pub sixfold : (l d : List ℕ) (n : ℕ) → d ≡ amountBytes n → length l ≡ 3
-    → (getD d 0 0 ∷ getD d 1 0 ∷ getD d 2 0 ∷ getD l 0 0 ∷ getD l 1 0 ∷ getD l 2 0 ∷ []) ≡ amountBytes n ++ l
-sixfold [] d n e h = absurd (omega (arith, h))
-sixfold (x ∷ []) d n e h = absurd (omega (arith, h))
-sixfold (x ∷ y ∷ []) d n e h = absurd (omega (arith, h))
-sixfold (x ∷ y ∷ z ∷ []) d n e h = simp e
-sixfold (x ∷ y ∷ z ∷ v ∷ l) d n e h = absurd (omega (arith, h))
+-- 22 bytes read from a place on
+pub read-whole : (l : List ℕ) (from : ℕ) → from + 22 ≤ length l → length (part l from (from + 22 - from)) ≡ 22
+read-whole l from h =
+    let n : from + 22 - from ≡ 22 = omega arith in
+    length-part l from (from + 22 - from) (omega (arith, n)) ∙ n
 
--- all six of them
-pub allSix : (v n : ℕ) (added told : List ℕ) → told ≡ amountBytes v ++ added → length added ≡ 3 → n ≡ 6 → take n told ≡ amountBytes v ++ added
-allSix v n added told e h k =
-    let q : n ≡ length (amountBytes v ++ added) = omega (arith, h, k) in
-    rw (e, q) (take-length (amountBytes v ++ added))
+-- six bytes and the zeros after them, one by one
+pub sum-told : (l d : List ℕ) (n : ℕ) → d ≡ amountBytes n → length l ≡ 3
+    → (getD d 0 0 ∷ getD d 1 0 ∷ getD d 2 0 ∷ getD l 0 0 ∷ getD l 1 0 ∷ getD l 2 0 ∷ replicate 16 0) ≡ amountBytes n ++ l ++ replicate 16 0
+sum-told [] d n e h = absurd (omega (arith, h))
+sum-told (x ∷ []) d n e h = absurd (omega (arith, h))
+sum-told (x ∷ y ∷ []) d n e h = absurd (omega (arith, h))
+sum-told (x ∷ y ∷ z ∷ []) d n e h = simp e
+sum-told (x ∷ y ∷ z ∷ v ∷ l) d n e h = absurd (omega (arith, h))
+
+-- they are 22 bytes, and read from the first on they are all there
+module _ (v : ℕ) (added told : List ℕ) (e : told ≡ amountBytes v ++ added ++ replicate 16 0) (three : length added ≡ 3) where
+  pub told-whole : length told ≡ 22
+  told-whole = rw e (simp (length-append, three))
+
+  pub told-all : (from : ℕ) → from ≡ 0 → part told from (from + 22 - from) ≡ (amountBytes v ++ added) ++ replicate 16 0
+  told-all from z = rw z (rw (← told-whole) (take-length told) ∙ e)
 
 -- a file that INCREASE may count on has records of three bytes
 pub countable : (r : Rights) (e : Entry) (b added : List ℕ) (p : Pointer) (w : ℕ) → Stands e b p → Counts e added

@@ -13,11 +13,11 @@ use commands_records::push;
 use commands_records::record_at;
 use parts::wide;
 use sessions::points;
-use sessions::waits;
+use sessions::waits_padded;
 ghost use mathlib.Core.Path.{_≡_};
 ghost use mathlib.Core.List.{_++_};
 ghost use Prim.Native.Nat.{_+_, _≤_, _<_};
-ghost use lib.ListN.{length};
+ghost use lib.ListN.{length, replicate};
 ghost use Rattle.card.specs.Increase.{amount, amountBytes, increaseBy};
 ghost use Rattle.commands.specs.Gives.{Writes};
 ghost use Rattle.commands_records.specs.Stands.{Stands};
@@ -41,13 +41,36 @@ fn amount_bytes(n: usize) -> [u8; 3]
     [high, middle, low]
 }
 
-// A sum's three bytes and the three that were added.
-fn six(n: usize, added: &[u8]) -> [u8; 6]
+// A sum's three bytes, the three that were added, and zeros after them: as many bytes as a session has for those that wait.
+fn told_sum(n: usize, added: &[u8]) -> [u8; 22]
     requires { ⌜ (n < 16777216) × (length (now added) ≡ 3) ⌝ }
-    ensures { λ r. ⌜ r ≡ amountBytes n ++ now (added .entry) ⌝ }
+    ensures { λ r. ⌜ r ≡ amountBytes n ++ now (added .entry) ++ replicate 16 0 ⌝ }
 {
     let d = amount_bytes(n);
-    [d[0], d[1], d[2], added[0], added[1], added[2]]
+    [
+        d[0],
+        d[1],
+        d[2],
+        added[0],
+        added[1],
+        added[2],
+        0,
+        0,
+        0,
+        0,
+        0,
+        0,
+        0,
+        0,
+        0,
+        0,
+        0,
+        0,
+        0,
+        0,
+        0,
+        0,
+    ]
 }
 
 // INCREASE: the record and what was added wait. Only this player's crates call it.
@@ -69,8 +92,13 @@ pub fn increase_by(r: Rights, e: Entry, b: &mut [u8], s: Session, added: &[u8]) 
     }
     let new = amount_bytes(sum);
     let top = push(e, b, &new);
-    let told = six(sum, added);
-    let n = wide(e.width) + 3;
-    let reply = silent(waits(&told[..n], points(Pointer::At(1), s)), 0x9f06);
+    let told = told_sum(sum, added);
+    // the first place, told at run time: the records have three bytes
+    let from = wide(e.width) - 3;
+    let end = from + 22;
+    let reply = silent(
+        waits_padded(&told[from..end], 6, points(Pointer::At(1), s)),
+        0x9f06,
+    );
     Written { reply, top }
 }

@@ -1,11 +1,12 @@
 -- Laws of STATUS and GET RESPONSE: the ways out of each.
 use Prim.Native.Nat.{ℕ, _+_, _≤_}
 use mathlib.Core.Path.{_≡_, refl, sym, subst, _∙_}
-use mathlib.Core.List.{List, []}
+use mathlib.Core.List.{List, [], _++_}
 use mathlib.Core.Bool.{Bool, true, false, _||_, false≢true}
 use lib.Dec.{eqb, ltb}
-use lib.ListN.{take}
+use lib.ListN.{take, replicate}
 use borrow.Author.Tests.{eq-eqb, ne-eqb, ltb-false}
+use Rattle.card.specs.Bytes.{part}
 use Rattle.card.specs.Answers.{Reply, reply, refusal}
 use Rattle.card.specs.Sessions.{dropped}
 use Rattle.card.specs.Select.{directoryResponse, tellStatus, getResponse}
@@ -43,10 +44,11 @@ module _ (s : Session) (n : ℕ) (t : Told) where
   responds was is z h q r =
       subst (λ (d : Reply). Gives d t was is) (otherwise _ _ _ h ∙ otherwise _ _ _ (ne-eqb _ _ z)) (record { reply = q; room = r })
 
--- STATUS, by the bytes on the current directory
-pub status : (s : Session) (n : ℕ) (told was is : List ℕ) (t : Told) → t ≡ brief (reply (take n told) 0x9000 (dropped s)) → is ≡ laid was (take n told)
-    → (h : List ℕ) → told ≡ directoryResponse h (s .directory)
+-- STATUS, by the bytes on the current directory, which stand after seven zeros
+pub status : (s : Session) (n : ℕ) (told was is : List ℕ) (t : Told) → t ≡ brief (reply (part told 7 n) 0x9000 (dropped s))
+    → is ≡ laid was (part told 7 n)
+    → (h : List ℕ) → told ≡ replicate 7 0 ++ directoryResponse h (s .directory)
     → Gives (tellStatus h s n) t was is
 unfolding tellStatus
 status s n told was is t q r h e =
-    subst (λ (l : List ℕ). Gives (reply (take n l) 0x9000 (dropped s)) t was is) e (record { reply = q; room = r })
+    subst (λ (l : List ℕ). Gives (reply (part l 7 n) 0x9000 (dropped s)) t was is) e (record { reply = q; room = r })

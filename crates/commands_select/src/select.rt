@@ -8,11 +8,11 @@ use commands::answers::silent;
 use parts::lay;
 use sessions::dropped;
 use sessions::enters;
-use sessions::waits;
+use sessions::waits_padded;
 ghost use mathlib.Core.Path.{_≡_};
-ghost use mathlib.Core.List.{List, []};
-ghost use Prim.Native.Nat.{ℕ, _+_, _≤_};
-ghost use lib.ListN.{length};
+ghost use mathlib.Core.List.{List, [], _++_};
+ghost use Prim.Native.Nat.{ℕ, _+_, _-_, _≤_};
+ghost use lib.ListN.{length, replicate};
 ghost use Rattle.card.specs.Answers.{reply};
 ghost use Rattle.card.specs.Select.{directoryResponse, tellStatus, getResponse};
 ghost use Rattle.card.specs.Sessions.{waits, enters};
@@ -39,13 +39,13 @@ pub fn get_response(s: Session, n: usize, room: &mut [u8]) -> Reply
     }
 }
 
-// The first bytes on the current directory. Only this player's crates call it.
-pub fn tell_status(told: [u8; 22], s: Session, n: usize, room: &mut [u8]) -> Reply
+// The first bytes on the current directory, which stand after seven zeros. Only this player's crates call it.
+pub fn tell_status(told: [u8; 29], s: Session, n: usize, room: &mut [u8]) -> Reply
     requires { ⌜ (n ≤ 22) × (22 ≤ length (now room)) ⌝ }
-    ensures { λ t. ⌜ ((h : List ℕ) → told ≡ directoryResponse h (s .directory)
+    ensures { λ t. ⌜ ((h : List ℕ) → told ≡ replicate 7 0 ++ directoryResponse h (s .directory)
         → Gives (tellStatus h s n) t (now (room .entry)) (now (room .exit))) ⌝ }
 {
-    lay(&told, 0, n, room);
+    lay(&told, 7, n, room);
     let session = dropped(s);
     Reply {
         session,
@@ -54,10 +54,11 @@ pub fn tell_status(told: [u8; 22], s: Session, n: usize, room: &mut [u8]) -> Rep
     }
 }
 
-// What SELECT found is entered, and these bytes on it wait. Only this player's crates call it.
-pub fn selected(d: usize, c: Current, p: Pointer, told: &[u8], s: Session) -> Reply
-    requires { ⌜ length (now told) ≤ 22 ⌝ }
-    ensures { λ t. ⌜ t ≡ brief (reply [] (0x9f00 + length (now (told .entry))) (waits (now (told .entry)) (enters d c p s))) ⌝ }
+// What SELECT found is entered, and the first n of these 22 bytes on it wait; the others are zeros. Only this player's crates call it.
+pub fn selected(d: usize, c: Current, p: Pointer, told: &[u8], n: usize, s: Session) -> Reply
+    requires { ⌜ (length (now told) ≡ 22) × (n ≤ 22) ⌝ }
+    ensures { λ t. ⌜ ((l : List ℕ) → length l ≡ n → now (told .entry) ≡ l ++ replicate (22 - n) 0
+        → t ≡ brief (reply [] (0x9f00 + n) (waits l (enters d c p s)))) ⌝ }
 {
-    silent(waits(told, enters(d, c, p, s)), 0x9f00 + told.len() as u16)
+    silent(waits_padded(told, n, enters(d, c, p, s)), 0x9f00 + n as u16)
 }

@@ -1,10 +1,10 @@
 -- Laws of what is told of a directory and a file.
 use Prim.Native.Nat.{ℕ, _+_, _≤_, _<_, _/_, _%_}
 use mathlib.Core.Path.{_≡_, ap, _∙_}
-use mathlib.Core.List.{List, [], _∷_}
+use mathlib.Core.List.{List, [], _∷_, _++_}
 use mathlib.Core.Bool.{Bool}
 use native.Mathlib.Omega.{arith}
-use lib.ListN.{length}
+use lib.ListN.{length, replicate}
 use borrow.Author.Tests.{eq-eqb, ne-eqb}
 use Rattle.card.specs.Bytes.{bit, howMany}
 use Rattle.card.specs.Layout.{index, codeAt, codeEntry, code, directory, file, disabled}
@@ -49,7 +49,7 @@ module _ (h : List ℕ) (i : Index) (sound : Head h i) where
   unfolding code
   counters c k e lt = let r = sound .sound .code c lt in rw e (record { attempts = r .attempts; unblocks = r .unblocks })
 
--- The 22 bytes on a directory, from its entry, the two codes and the two counts.
+-- Seven zeros and the 22 bytes on a directory, from its entry, the two codes and the two counts.
 pub directory-told : (h : List ℕ) (d : ℕ) (e : Directory) (k k′ : Code) (m m′ n n′ t x y z a u a′ u′ : ℕ)
     → e ≡ directory h d
     → k ≡ codeEntry h (codeAt 0)
@@ -66,7 +66,8 @@ pub directory-told : (h : List ℕ) (d : ℕ) (e : Directory) (k k′ : Code) (m
     → u ≡ unblockStatus k
     → a′ ≡ codeStatus k′
     → u′ ≡ unblockStatus k′
-    → (0 ∷ 0 ∷ m ∷ m′ ∷ n ∷ n′ ∷ t ∷ 0 ∷ 0 ∷ 0 ∷ 0 ∷ 0 ∷ 9 ∷ x ∷ y ∷ z ∷ e .codes ∷ 0 ∷ a ∷ u ∷ a′ ∷ u′ ∷ []) ≡ directoryResponse h d
+    → (replicate 7 0 ++ (0 ∷ 0 ∷ m ∷ m′ ∷ n ∷ n′ ∷ t ∷ 0 ∷ 0 ∷ 0 ∷ 0 ∷ 0 ∷ 9 ∷ x ∷ y ∷ z ∷ e .codes ∷ 0 ∷ a ∷ u ∷ a′ ∷ u′ ∷ []))
+    ≡ replicate 7 0 ++ directoryResponse h d
 unfolding directoryResponse code
 directory-told h d e k k′ m m′ n n′ t x y z a u a′ u′ E K K′ M M′ N N′ T X Y Z A U A′ U′ =
     rw (M, M′, N, N′, T, X, Y, Z, A, U, A′, U′, E, K, K′)

@@ -1,12 +1,11 @@
 -- `acts_select::select` meets its contract: the head that was lent is the image's, and each way out is one law.
 use mathlib.Core.Logic.{inl, inr}
-use mathlib.Core.Path.{sym, _∙_}
+use mathlib.Core.Path.{_∙_}
 use native.Mathlib.Omega.{arith}
 use denote.Ref.{now}
-use lib.Seq.{length-take-le}
 use borrow.Author.Needs.{needs}
 use Rattle.shelf.proofs.Heading.{head-length}
-use Rattle.acts_select.proofs.Finding.{fewDirectory, fewFile, heading, here, toDirectory, toFile, toNothing}
+use Rattle.acts_select.proofs.Finding.{directoryReadable, fileReadable, heading, here, toDirectory, toFile, toNothing}
 use Rattle.acts_select.proofs.select.Statement.{statement}
 use Rattle.acts_select.proofs.select.Tie as tie
 
@@ -50,29 +49,39 @@ found-file-requires c κs =
     let d = c .before .before .before .before .before .before .before in
     (heading (d .before .before .pre) _ (d .image-index .ensures .is), c .if2 .left)
 
-array-share-prefix-told : tie.Need-array-share-prefix-told
-array-share-prefix-told c =
+add-end : tie.Need-add-end
+add-end c =
     elim (c .before .if1 .came) [
-      | inl h ↦ fewDirectory _ _ _ (h .2 ∙ h .1 .ensures) .0
-      | inr h ↦ fewFile _ _ _ _ (h .5 ∙ h .4 .ensures) .0
+      | inl h ↦ omega (arith, directoryReadable _ _ _ (h .2 ∙ h .1 .ensures) .early)
+      | inr h ↦ omega (arith, fileReadable _ _ _ _ (h .5 ∙ h .4 .ensures) .early)
     ]
 
-slice-aggregate-selected : tie.Need-slice-aggregate-selected
-slice-aggregate-selected c = sym (length-take-le _ _ (array-share-prefix-told (c .before)))
+sub-selected : tie.Need-sub-selected
+sub-selected c = search needs
+
+part-selected-start : tie.Need-part-selected-start
+part-selected-start c = search needs
+
+part-selected-end : tie.Need-part-selected-end
+part-selected-end c =
+    elim (c .before .before .if1 .came) [
+      | inl h ↦ directoryReadable _ _ _ (h .2 ∙ h .1 .ensures) .inside
+      | inr h ↦ fileReadable _ _ _ _ (h .5 ∙ h .4 .ensures) .inside
+    ]
 
 selected-requires : tie.Need-selected-requires
 selected-requires c κs =
-    elim (c .before .before .if1 .came) [
-      | inl h ↦ omega (arith, slice-aggregate-selected c, fewDirectory _ _ _ (h .2 ∙ h .1 .ensures) .1)
-      | inr h ↦ omega (arith, slice-aggregate-selected c, fewFile _ _ _ _ (h .5 ∙ h .4 .ensures) .1)
+    elim (c .before .before .before .if1 .came) [
+      | inl h ↦ let r = directoryReadable _ _ _ (h .2 ∙ h .1 .ensures) in (r .all, r .few)
+      | inr h ↦ let r = fileReadable _ _ _ _ (h .5 ∙ h .4 .ensures) in (r .all, r .few)
     ]
 
 returns-2 : tie.Need-returns-2
 returns-2 c =
-    let d = c .before .before .before .before .before in
+    let d = c .before .before .before .before .before .before in
     let r = d .before .before .before .before .pre in
     let i = d .before .before .image-index .ensures .is in
-    elim (c .before .before .before .if1 .came) [
+    elim (c .before .before .before .before .if1 .came) [
       | inl h ↦ toDirectory r _ i _ _ _ _ (d .find-directory .ensures) (h .0 .taken) (h .2 ∙ h .1 .ensures) (c .selected .ensures)
       | inr h ↦
           toFile r _ i _ _ _ _ _ (d .find-directory .ensures) (h .0 .left) (h .1 .ensures) (h .3 .left)
@@ -91,7 +100,9 @@ select-spec =
     refusal-requires
     returns
     found-file-requires
-    array-share-prefix-told
-    slice-aggregate-selected
+    add-end
+    sub-selected
+    part-selected-start
+    part-selected-end
     selected-requires
     returns-2)

@@ -1,16 +1,17 @@
 -- `commands_increase::increase_by` meets its contract.
-use Prim.Native.Nat.{_+_}
-use mathlib.Core.List.{[]}
+use Prim.Native.Nat.{_+_, _-_}
+use mathlib.Core.List.{[], _++_}
 use mathlib.Core.Path.{_≡_, sym, ap, _∙_}
 use native.Mathlib.Omega.{arith}
 use denote.Ref.{now}
 use lib.ListN.{length}
-use lib.Seq.{length-take-le}
 use Rattle.card.specs.Answers.{reply}
+use Rattle.card.specs.Increase.{amountBytes}
+use Rattle.card.specs.Sessions.{waits}
 use Rattle.card.specs.declared.Session.{Session}
 use Rattle.commands.specs.Gives.{brief}
 use Rattle.commands_records.specs.Stands.{Recorded}
-use Rattle.commands_increase.proofs.Increasing.{allSix, countable, summed, notIncreased, tooMuch, increased}
+use Rattle.commands_increase.proofs.Increasing.{read-whole, told-whole, told-all, countable, summed, notIncreased, tooMuch, increased}
 use borrow.Author.Needs.{needs}
 use Rattle.commands_increase.proofs.increase_by.Statement.{statement}
 use Rattle.commands_increase.proofs.increase_by.Tie as tie
@@ -67,29 +68,38 @@ push-requires c κs =
     let f : Recorded (a .e) × (a .e .width ≡ 3) = countable (a .r) (a .e) (now (a .b)) (now (a .added)) (a .s .pointer) _ (c .before .before .before .before .before .before .before .before .before .before .before .before .before .pre .0) (c .before .before .before .before .before .before .before .before .before .before .before .before .before .pre .1) (c .before .before .before .before .before .before .before .before .before .shared .ensures) (c .before .before .before .before .before .before .before .before .if1 .left) in
     (f .0, (c .before .before .before .before .before .before .before .before .before .before .before .before .before .pre .0 .full, ap length (c .before .before .amount-bytes .ensures) ∙ sym (f .1)))
 
-six-requires : tie.Need-six-requires
-six-requires c κs = search needs
+told-sum-requires : tie.Need-told-sum-requires
+told-sum-requires c κs = search needs
 
 wide-requires : tie.Need-wide-requires
 wide-requires c κs = search needs
 
-add-n : tie.Need-add-n
-add-n c = search needs
-
-array-share-prefix-told : tie.Need-array-share-prefix-told
-array-share-prefix-told c =
+sub-from : tie.Need-sub-from
+sub-from c =
     let a = c .before .before .before .before .before .before .before .before .before .before .before .before .before .before .before .before .before .before .args in
     let f : Recorded (a .e) × (a .e .width ≡ 3) = countable (a .r) (a .e) (now (a .b)) (now (a .added)) (a .s .pointer) _ (c .before .before .before .before .before .before .before .before .before .before .before .before .before .before .before .before .before .before .pre .0) (c .before .before .before .before .before .before .before .before .before .before .before .before .before .before .before .before .before .before .pre .1) (c .before .before .before .before .before .before .before .before .before .before .before .before .before .before .shared .ensures) (c .before .before .before .before .before .before .before .before .before .before .before .before .before .if1 .left) in
     omega (arith, f .1, c .wide .ensures .0)
 
-slice-aggregate-waits : tie.Need-slice-aggregate-waits
-slice-aggregate-waits c = sym (length-take-le _ _ (omega (arith, array-share-prefix-told (c .before), ap length (c .before .before .six .ensures), c .before .before .before .before .before .before .before .before .before .before .before .before .before .before .before .before .before .before .before .pre .1 .three)))
+add-end : tie.Need-add-end
+add-end c = search needs
+
+sub-waits-padded : tie.Need-sub-waits-padded
+sub-waits-padded c = search needs
+
+part-waits-padded-start : tie.Need-part-waits-padded-start
+part-waits-padded-start c = search needs
+
+part-waits-padded-end : tie.Need-part-waits-padded-end
+part-waits-padded-end c =
+    let a = c .before .before .before .before .before .before .before .before .before .before .before .before .before .before .before .before .before .before .before .args in
+    let f : Recorded (a .e) × (a .e .width ≡ 3) = countable (a .r) (a .e) (now (a .b)) (now (a .added)) (a .s .pointer) _ (c .before .before .before .before .before .before .before .before .before .before .before .before .before .before .before .before .before .before .before .pre .0) (c .before .before .before .before .before .before .before .before .before .before .before .before .before .before .before .before .before .before .before .pre .1) (c .before .before .before .before .before .before .before .before .before .before .before .before .before .before .before .shared .ensures) (c .before .before .before .before .before .before .before .before .before .before .before .before .before .before .if1 .left) in
+    omega (arith, f .1, c .before .wide .ensures .0, told-whole _ (now (a .added)) _ (c .before .before .told-sum .ensures) (c .before .before .before .before .before .before .before .before .before .before .before .before .before .before .before .before .before .before .before .pre .1 .three))
 
 points-requires : tie.Need-points-requires
 points-requires c κs = search needs
 
-waits-requires : tie.Need-waits-requires
-waits-requires c κs = omega (arith, slice-aggregate-waits (c .before), array-share-prefix-told (c .before .before))
+waits-padded-requires : tie.Need-waits-padded-requires
+waits-padded-requires c κs = read-whole _ _ (part-waits-padded-end (c .before .before))
 
 silent-requires : tie.Need-silent-requires
 silent-requires c κs = search needs
@@ -99,14 +109,15 @@ same-length-2 c = search needs
 
 returns-3 : tie.Need-returns-3
 returns-3 c =
-    let a = c .before .before .before .before .before .before .before .before .before .before .before .before .before .before .before .before .before .before .before .before .before .before .args in
-    let f : Recorded (a .e) × (a .e .width ≡ 3) = countable (a .r) (a .e) (now (a .b)) (now (a .added)) (a .s .pointer) _ (c .before .before .before .before .before .before .before .before .before .before .before .before .before .before .before .before .before .before .before .before .before .before .pre .0) (c .before .before .before .before .before .before .before .before .before .before .before .before .before .before .before .before .before .before .before .before .before .before .pre .1) (c .before .before .before .before .before .before .before .before .before .before .before .before .before .before .before .before .before .before .shared .ensures) (c .before .before .before .before .before .before .before .before .before .before .before .before .before .before .before .before .before .if1 .left) in
-    let v = c .before .before .before .before .before .before .before .before .before .before .before .before .before .before .amount .result + c .before .before .before .before .before .before .before .before .before .before .before .before .before .amount2 .result in
-    let n : c .before .before .before .before .wide .result + 3 ≡ 6 = omega (arith, f .1, c .before .before .before .before .wide .ensures .0) in
-    let told = allSix v _ (now (a .added)) _ (c .before .before .before .before .before .six .ensures) (c .before .before .before .before .before .before .before .before .before .before .before .before .before .before .before .before .before .before .before .before .before .before .pre .1 .three) n in
-    increased (a .r) (a .e) (now (a .b)) (a .s) (now (a .added)) _ (c .before .before .before .before .before .before .before .before .before .before .before .before .before .before .before .before .before .before .shared .ensures) _ _ _ _ (c .before .before .before .before .before .before .before .before .before .before .before .before .before .before .before .before .before .if1 .left) (summed (a .e) (now (a .b)) (now (a .added)) _ _ _ (c .before .before .before .before .before .before .before .before .before .before .before .before .before .before .before .before .record-at .ensures .0) (c .before .before .before .before .before .before .before .before .before .before .before .before .before .before .amount .ensures .0) (c .before .before .before .before .before .before .before .before .before .before .before .before .before .amount2 .ensures .0)) (c .before .before .before .before .before .before .before .before .before .before .before .before .if2 .left)
-    (c .silent .ensures ∙ ap (λ (s : Session). brief (reply [] 0x9f06 s)) (c .before .waits .ensures ∙ simp (told, c .before .before .points .ensures)))
-    (c .before .before .before .before .before .before .before .before .push .ensures .0 ∙ simp (c .before .before .before .before .before .before .before .before .before .before .before .amount-bytes .ensures)) (c .before .before .before .before .before .before .before .before .push .ensures .1)
+    let a = c .before .before .before .before .before .before .before .before .before .before .before .before .before .before .before .before .before .before .before .before .before .before .before .args in
+    let f : Recorded (a .e) × (a .e .width ≡ 3) = countable (a .r) (a .e) (now (a .b)) (now (a .added)) (a .s .pointer) _ (c .before .before .before .before .before .before .before .before .before .before .before .before .before .before .before .before .before .before .before .before .before .before .before .pre .0) (c .before .before .before .before .before .before .before .before .before .before .before .before .before .before .before .before .before .before .before .before .before .before .before .pre .1) (c .before .before .before .before .before .before .before .before .before .before .before .before .before .before .before .before .before .before .before .shared .ensures) (c .before .before .before .before .before .before .before .before .before .before .before .before .before .before .before .before .before .before .if1 .left) in
+    let v = c .before .before .before .before .before .before .before .before .before .before .before .before .before .before .before .amount .result + c .before .before .before .before .before .before .before .before .before .before .before .before .before .before .amount2 .result in
+    let three = c .before .before .before .before .before .before .before .before .before .before .before .before .before .before .before .before .before .before .before .before .before .before .before .pre .1 .three in
+    let z : c .before .before .before .before .before .wide .result - 3 ≡ 0 = omega (arith, f .1, c .before .before .before .before .before .wide .ensures .0) in
+    let told = told-all v (now (a .added)) _ (c .before .before .before .before .before .before .told-sum .ensures) three _ z in
+    increased (a .r) (a .e) (now (a .b)) (a .s) (now (a .added)) _ (c .before .before .before .before .before .before .before .before .before .before .before .before .before .before .before .before .before .before .before .shared .ensures) _ _ _ _ (c .before .before .before .before .before .before .before .before .before .before .before .before .before .before .before .before .before .before .if1 .left) (summed (a .e) (now (a .b)) (now (a .added)) _ _ _ (c .before .before .before .before .before .before .before .before .before .before .before .before .before .before .before .before .before .record-at .ensures .0) (c .before .before .before .before .before .before .before .before .before .before .before .before .before .before .before .amount .ensures .0) (c .before .before .before .before .before .before .before .before .before .before .before .before .before .before .amount2 .ensures .0)) (c .before .before .before .before .before .before .before .before .before .before .before .before .before .if2 .left)
+    (c .silent .ensures ∙ ap (λ (s : Session). brief (reply [] 0x9f06 s)) (c .before .waits-padded .ensures (amountBytes v ++ now (a .added)) (omega (arith, three)) told ∙ ap (waits (amountBytes v ++ now (a .added))) (c .before .before .points .ensures)))
+    (c .before .before .before .before .before .before .before .before .before .push .ensures .0 ∙ simp (c .before .before .before .before .before .before .before .before .before .before .before .before .amount-bytes .ensures)) (c .before .before .before .before .before .before .before .before .before .push .ensures .1)
 
 pub increase-by-spec : {M : Type 1} → statement M
 increase-by-spec =
@@ -125,13 +136,15 @@ increase-by-spec =
     amount-bytes-requires
     slice-aggregate-push
     push-requires
-    six-requires
+    told-sum-requires
     wide-requires
-    add-n
-    array-share-prefix-told
-    slice-aggregate-waits
+    sub-from
+    add-end
+    sub-waits-padded
+    part-waits-padded-start
+    part-waits-padded-end
     points-requires
-    waits-requires
+    waits-padded-requires
     silent-requires
     same-length-2
     returns-3)

@@ -1,9 +1,9 @@
--- `commands_increase::six` meets its contract.
+-- `commands_increase::told_sum` meets its contract.
 use denote.Ref.{now}
-use Rattle.commands_increase.proofs.Increasing.{sixfold}
+use Rattle.commands_increase.proofs.Increasing.{sum-told}
 use borrow.Author.Needs.{needs}
-use Rattle.commands_increase.proofs.six.Statement.{statement}
-use Rattle.commands_increase.proofs.six.Tie as tie
+use Rattle.commands_increase.proofs.told_sum.Statement.{statement}
+use Rattle.commands_increase.proofs.told_sum.Tie as tie
 
 amount-bytes-requires : tie.Need-amount-bytes-requires
 amount-bytes-requires c κs = search needs
@@ -29,10 +29,10 @@ shared-slice-read-t19 c = search needs
 returns : tie.Need-returns
 returns c =
     let a = c .before .before .before .before .before .args in
-    sixfold (now (a .added)) _ (a .n) (c .before .before .before .amount-bytes .ensures) (c .before .before .before .before .before .pre .1)
+    sum-told (now (a .added)) _ (a .n) (c .before .before .before .amount-bytes .ensures) (c .before .before .before .before .before .pre .1)
 
-pub six-spec : {M : Type 1} → statement M
-six-spec =
+pub told-sum-spec : {M : Type 1} → statement M
+told-sum-spec =
     tie.close
     (tie.spec
     amount-bytes-requires
