@@ -38,7 +38,7 @@ within h s e = ltb-true _ _ (both _ _ (both _ _ e .0) .0)
 -- a file that was found, by its entry
 pub fileFound : (h : List ℕ) (i : Index) (d f : ℕ) (e : Entry) (p : Pointer) (b : List ℕ) → i ≡ index h → e ≡ fileEntry h (i .table + 14 * f)
     → p ≡ firstPointer e
-    → b ≡ fileResponse e ++ replicate 14 0
+    → b ≡ fileResponse e ++ replicate 11 0
     → record { directory = d; current = File f; pointer = p; told = b; from = 0; count = 15 } ≡ foundFile h d f
 unfolding foundFile
 fileFound h i d f e p b is x q m = rw (m, q, file-read h i is f e x)
@@ -49,7 +49,7 @@ read x = part (x .told) (x .from) (x .from + 22 - x .from)
 
 -- There are 22 of them, and at most all of them tell of it.
 pub record Readable (x : Found) : Type 0 where
-  pub early : x .from ≤ 7
+  pub early : x .from ≤ 4
   pub inside : x .from + 22 ≤ length (x .told)
   pub all : length (read x) ≡ 22
   pub few : x .count ≤ 22
@@ -141,7 +141,7 @@ module _ {l : List ℕ} {s : Session} (r : Ready l s) (i : Index) (is : i ≡ in
       (record { reply = q; silent = refl }))
 
   -- STATUS, by the bytes on the current directory
-  pub status : (n : ℕ) (bytes was now : List ℕ) (t : Reply) → bytes ≡ replicate 7 0 ++ directoryResponse seen (s .directory)
-      → ((h : List ℕ) → bytes ≡ replicate 7 0 ++ directoryResponse h (s .directory) → Gives (tellStatus h s n) t was now)
+  pub status : (n : ℕ) (bytes was now : List ℕ) (t : Reply) → bytes ≡ replicate 4 0 ++ directoryResponse seen (s .directory)
+      → ((h : List ℕ) → bytes ≡ replicate 4 0 ++ directoryResponse h (s .directory) → Gives (tellStatus h s n) t was now)
       → Tells (tellStatus (head l) s n) l s t was now
   status n bytes was now t b gives = tells r (tellStatus (head l) s n) t was now (gives (head l) (rw lent at b))

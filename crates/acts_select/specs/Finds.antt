@@ -15,8 +15,8 @@ foundDirectory h d =
       directory = d;
       current = Nothing;
       pointer = Undefined;
-      told = replicate 7 0 ++ directoryResponse h d;
-      from = 7;
+      told = replicate 4 0 ++ directoryResponse h d;
+      from = 4;
       count = 22;
     }
 
@@ -27,7 +27,7 @@ foundFile h d f =
       directory = d;
       current = File f;
       pointer = firstPointer (file h f);
-      told = fileResponse (file h f) ++ replicate 14 0;
+      told = fileResponse (file h f) ++ replicate 11 0;
       from = 0;
       count = 15;
     }

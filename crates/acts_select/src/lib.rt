@@ -25,7 +25,7 @@ struct Found {
     directory: usize,
     current: Current,
     pointer: Pointer,
-    told: [u8; 29],
+    told: [u8; 26],
     from: usize,
     count: usize,
 }
@@ -42,7 +42,7 @@ fn found_directory(head: &[u8], i: Index, d: usize) -> Found
         current: Current::Nothing,
         pointer: Pointer::Undefined,
         told,
-        from: 7,
+        from: 4,
         count: 22,
     }
 }

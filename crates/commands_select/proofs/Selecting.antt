@@ -45,10 +45,10 @@ module _ (s : Session) (n : ℕ) (t : Told) where
       subst (λ (d : Reply). Gives d t was is) (otherwise _ _ _ h ∙ otherwise _ _ _ (ne-eqb _ _ z)) (record { reply = q; room = r })
 
 -- STATUS, by the bytes on the current directory, which stand after seven zeros
-pub status : (s : Session) (n : ℕ) (told was is : List ℕ) (t : Told) → t ≡ brief (reply (part told 7 n) 0x9000 (dropped s))
-    → is ≡ laid was (part told 7 n)
-    → (h : List ℕ) → told ≡ replicate 7 0 ++ directoryResponse h (s .directory)
+pub status : (s : Session) (n : ℕ) (told was is : List ℕ) (t : Told) → t ≡ brief (reply (part told 4 n) 0x9000 (dropped s))
+    → is ≡ laid was (part told 4 n)
+    → (h : List ℕ) → told ≡ replicate 4 0 ++ directoryResponse h (s .directory)
     → Gives (tellStatus h s n) t was is
 unfolding tellStatus
 status s n told was is t q r h e =
-    subst (λ (l : List ℕ). Gives (reply (part l 7 n) 0x9000 (dropped s)) t was is) e (record { reply = q; room = r })
+    subst (λ (l : List ℕ). Gives (reply (part l 4 n) 0x9000 (dropped s)) t was is) e (record { reply = q; room = r })

@@ -39,13 +39,13 @@ pub fn get_response(s: Session, n: usize, room: &mut [u8]) -> Reply
     }
 }
 
-// The first bytes on the current directory, which stand after seven zeros. Only this player's crates call it.
-pub fn tell_status(told: [u8; 29], s: Session, n: usize, room: &mut [u8]) -> Reply
+// The first bytes on the current directory, which stand after four zeros. Only this player's crates call it.
+pub fn tell_status(told: [u8; 26], s: Session, n: usize, room: &mut [u8]) -> Reply
     requires { ⌜ (n ≤ 22) × (22 ≤ length (now room)) ⌝ }
-    ensures { λ t. ⌜ ((h : List ℕ) → told ≡ replicate 7 0 ++ directoryResponse h (s .directory)
+    ensures { λ t. ⌜ ((h : List ℕ) → told ≡ replicate 4 0 ++ directoryResponse h (s .directory)
         → Gives (tellStatus h s n) t (now (room .entry)) (now (room .exit))) ⌝ }
 {
-    lay(&told, 7, n, room);
+    lay(&told, 4, n, room);
     let session = dropped(s);
     Reply {
         session,

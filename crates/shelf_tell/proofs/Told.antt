@@ -66,8 +66,8 @@ pub directory-told : (h : List ℕ) (d : ℕ) (e : Directory) (k k′ : Code) (m
     → u ≡ unblockStatus k
     → a′ ≡ codeStatus k′
     → u′ ≡ unblockStatus k′
-    → (replicate 7 0 ++ (0 ∷ 0 ∷ m ∷ m′ ∷ n ∷ n′ ∷ t ∷ 0 ∷ 0 ∷ 0 ∷ 0 ∷ 0 ∷ 9 ∷ x ∷ y ∷ z ∷ e .codes ∷ 0 ∷ a ∷ u ∷ a′ ∷ u′ ∷ []))
-    ≡ replicate 7 0 ++ directoryResponse h d
+    → (replicate 4 0 ++ (0 ∷ 0 ∷ m ∷ m′ ∷ n ∷ n′ ∷ t ∷ 0 ∷ 0 ∷ 0 ∷ 0 ∷ 0 ∷ 9 ∷ x ∷ y ∷ z ∷ e .codes ∷ 0 ∷ a ∷ u ∷ a′ ∷ u′ ∷ []))
+    ≡ replicate 4 0 ++ directoryResponse h d
 unfolding directoryResponse code
 directory-told h d e k k′ m m′ n n′ t x y z a u a′ u′ E K K′ M M′ N N′ T X Y Z A U A′ U′ =
     rw (M, M′, N, N′, T, X, Y, Z, A, U, A′, U′, E, K, K′)

@@ -28,9 +28,9 @@ fn low(w: u16) -> u8
     (w % 256) as u8
 }
 
-// The 15 bytes on a file, and zeros after them: SELECT reads 22 of the 29 bytes, from a place that is told at run time.
-pub fn file_response(e: Entry) -> [u8; 29]
-    ensures { λ r. ⌜ r ≡ fileResponse e ++ replicate 14 0 ⌝ }
+// The 15 bytes on a file, and zeros after them: SELECT reads 22 of the 26 bytes, from a place that is told at run time.
+pub fn file_response(e: Entry) -> [u8; 26]
+    ensures { λ r. ⌜ r ≡ fileResponse e ++ replicate 11 0 ⌝ }
 {
     [
         0,
@@ -48,9 +48,6 @@ pub fn file_response(e: Entry) -> [u8; 29]
         2,
         e.structure,
         e.width,
-        0,
-        0,
-        0,
         0,
         0,
         0,
@@ -151,19 +148,19 @@ fn directory_type(d: usize) -> u8
     if d == 0 { 1 } else { 2 }
 }
 
-// The 22 bytes on a directory, after seven zeros: SELECT reads 22 of the 29 bytes, from a place that is told at run time. Only this
+// The 22 bytes on a directory, after four zeros: SELECT reads 22 of the 26 bytes, from a place that is told at run time. Only this
 // player's crates call it, with the head of an image.
-pub fn directory_response(head: &[u8], i: Index, d: usize) -> [u8; 29]
-    requires { ⌜ Head (now head) i × (d < i .directories) ⌝ }
-    ensures { λ r. ⌜ r ≡ replicate 7 0 ++ directoryResponse (now (head .entry)) d ⌝ }
+pub fn directory_response(head: &[u8], i: Index, d: usize) -> [u8; 26]
+    requires { ⌜ Head (now head) i ⌝ }
+    requires { ⌜ d < i .directories ⌝ }
+    ensures { λ r. ⌜ r ≡ replicate 4 0 ++ directoryResponse (now (head .entry)) d ⌝ }
 {
+    let below = children(head, i, d) as u8;
+    let inside = members(head, i, d) as u8;
     let chv1 = entries::code(head, CHV1);
     let chv2 = entries::code(head, CHV2);
     let e = read::directory(head, i, d);
     [
-        0,
-        0,
-        0,
         0,
         0,
         0,
@@ -182,8 +179,8 @@ pub fn directory_response(head: &[u8], i: Index, d: usize) -> [u8; 29]
         0,
         9,
         characteristics(chv1, e),
-        children(head, i, d) as u8,
-        members(head, i, d) as u8,
+        below,
+        inside,
         e.codes,
         0,
         code_status(chv1),

@@ -24,8 +24,8 @@ same-length c = search needs
 returns : tie.Need-returns
 returns c =
     let a = c .before .before .before .before .before .before .before .args in
-    let l : length (a .t1) ≡ 29 = search needs in
-    status (a .s) (a .n) (a .t1) (now (a .room)) _ _ (counted (a .t1) _ _ 7 (a .n) (omega (arith, l)) (c .dropped .ensures)) (c .before .before .before .lay .ensures)
+    let l : length (a .t1) ≡ 26 = search needs in
+    status (a .s) (a .n) (a .t1) (now (a .room)) _ _ (counted (a .t1) _ _ 4 (a .n) (omega (arith, l)) (c .dropped .ensures)) (c .before .before .before .lay .ensures)
 
 pub tell-status-spec : {M : Type 1} → statement M
 tell-status-spec =
