@@ -4,7 +4,7 @@ use mathlib.Core.Path.{_≡_, refl, sym, ap, subst, _∙_}
 use mathlib.Core.List.{List, [], _∷_}
 use mathlib.Core.Bool.{Bool, true, false, not, _&&_}
 use native.Mathlib.Omega.{arith}
-use native.Mathlib.Nat.{mod-lt, mul-le-mul-right, suc-mul}
+use native.Mathlib.Nat.{mod-lt, mod-eq-of-lt, add-mod-right, mul-le-mul-right, suc-mul}
 use lib.Dec.{eqb, ltb, leb}
 use lib.ListN.{length}
 use borrow.Author.Tests.{lt-ltb, le-ltb, le-leb, lt-leb, eq-eqb, ne-eqb, eqb-true, eqb-false, leb-true, not-true, not-false}
@@ -55,12 +55,22 @@ slot e h x =
     let m : suc (x % records e) * e .width ≤ records e * e .width = mul-le-mul-right (e .width) (mod-lt x (h .some)) in
     omega (arith, m, suc-mul (x % records e) (e .width), h .whole)
 
--- what the code computes for record k's place
-module _ (e : Entry) (k top width n : ℕ) (h : Recorded e) (et : top ≡ e .top) (ew : width ≡ e .width) (en : n ≡ records e) where
-  pub located : (top + k - 1) % n * width ≡ recordAt e k
-  located = simp (et, ew, en)
+-- what is left where n goes into x not at all, or once
+pub below : (x n : ℕ) → x < n → x ≡ x % n
+below x n lt = sym (mod-eq-of-lt lt)
 
-  pub placed : (top + k - 1) % n * width + e .width ≤ e .size
+pub once : (x n : ℕ) → n ≤ x → x < n + n → x - n ≡ x % n
+once x n le lt =
+    let y : ℕ = x - n in
+    let is : x ≡ y + n = omega arith in
+    below y n (omega arith) ∙ sym (add-mod-right y n) ∙ ap (λ (z : ℕ). z % n) (sym is)
+
+-- what the code computes for record k's place
+module _ (e : Entry) (k top width n r : ℕ) (h : Recorded e) (et : top ≡ e .top) (ew : width ≡ e .width) (en : n ≡ records e) (er : r ≡ (top + k - 1) % n) where
+  pub located : r * width ≡ recordAt e k
+  located = simp (er, et, ew, en)
+
+  pub placed : r * width + e .width ≤ e .size
   placed = rw located (slot e h (e .top + k - 1))
 
 -- the record chosen is within the file, or the one after the last
@@ -157,16 +167,14 @@ module _ (r : Rights) (e : Entry) (b : List ℕ) (s : Session) (number mode n w 
 
 -- a record command that nothing refuses has a record to go to
 module _ (e : Entry) (b : List ℕ) (p : Pointer) (number mode k : ℕ) (stands : Stands e b p) (at-last : k ≡ chosen e number mode p) where
-  few : (suits : Bool) (n : ℕ) → Fitting e suits k n → Recorded e → (0 < k) × (k < 256)
-  few suits n f h =
-      let m : chosen e number mode p ≤ records e + 1 = chosenWithin e number mode p (stands .pointed) in
-      (f .some, omega (arith, at-last, m, h .few))
+  within : (suits : Bool) (n : ℕ) → Fitting e suits k n → (0 < k) × (k ≤ records e + 1)
+  within suits n f = (f .some, rw at-last (chosenWithin e number mode p (stands .pointed)))
 
-  pub ready : (n : ℕ) → Fitting e (not (transparent e)) k n → Recorded e × ((0 < k) × (k < 256))
-  ready n f = let h : Recorded e = stands .recorded (not-true _ (f .suiting)) in (h, few _ n f h)
+  pub ready : (n : ℕ) → Fitting e (not (transparent e)) k n → Recorded e × ((0 < k) × (k ≤ records e + 1))
+  ready n f = (stands .recorded (not-true _ (f .suiting)), within _ n f)
 
-  pub readyToUpdate : (n : ℕ) → Fitting e (updatable mode e) k n → Recorded e × ((0 < k) × (k < 256))
-  readyToUpdate n f = let h : Recorded e = stands .recorded (not-true _ (left _ _ (f .suiting))) in (h, few _ n f h)
+  pub readyToUpdate : (n : ℕ) → Fitting e (updatable mode e) k n → Recorded e × ((0 < k) × (k ≤ records e + 1))
+  readyToUpdate n f = (stands .recorded (not-true _ (left _ _ (f .suiting))), within _ n f)
     where
       left : (a c : Bool) → (a && c) ≡ true → a ≡ true
       left true c q = refl

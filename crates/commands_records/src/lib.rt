@@ -103,16 +103,27 @@ fn moved(mode: usize, k: usize, s: Session) -> Session
     points(Pointer::At(k), s)
 }
 
+// What is left of a number after n, which goes into it once at most: no division.
+fn round(x: usize, n: usize) -> usize
+    requires { ⌜ x < n + n ⌝ }
+    ensures { λ r. ⌜ r ≡ x % n ⌝ }
+{
+    if x < n {
+        return x;
+    }
+    x - n
+}
+
 // Where record k starts in the file's bytes. Only this player's crates call it.
 pub fn record_at(e: Entry, k: usize) -> usize
     requires { ⌜ Recorded e ⌝ }
-    requires { ⌜ (0 < k) × (k < 256) ⌝ }
+    requires { ⌜ (0 < k) × (k ≤ records e + 1) ⌝ }
     ensures { λ r. ⌜ (r ≡ recordAt e k) × (r + e .width ≤ e .size) ⌝ }
 {
     let top = wide(e.top);
     let width = wide(e.width);
     let n = records(e);
-    (top + k - 1) % n * width
+    round(top + k - 1, n) * width
 }
 
 // The word of the first refusal of record k with n bytes, and 0 where none holds.
