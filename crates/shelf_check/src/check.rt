@@ -66,7 +66,7 @@ pub enum Tally {
 }
 
 // What a file's identifier starts with, by the number of its directory, and 256, which no byte is, where there is no directory.
-fn homes(image: &[u8], i: Index) -> [u16; 32]
+pub fn homes(image: &[u8], i: Index) -> [u16; 32]
     requires { ⌜ Whole (now image) i ⌝ }
     ensures { λ r. ⌜ Homes (now (image .entry)) (index (now (image .entry)) .directories) r ⌝ }
 {
@@ -81,20 +81,20 @@ fn homes(image: &[u8], i: Index) -> [u16; 32]
 }
 
 // One pass, as over the directories.
-fn each_file(image: &[u8], i: Index, marks: &mut [u32]) -> Tally
+fn each_file(image: &[u8], i: Index, homes: &[u16; 32], marks: &mut [u32]) -> Tally
     requires { ⌜ Whole (now image) i ⌝ }
+    requires { ⌜ Homes (now image) (index (now image) .directories) (now homes) ⌝ }
     requires { ⌜ now marks ≡ replicate 256 0 ⌝ }
     ensures { λ r. ⌜ r ≡ tally (now (image .entry)) (i .files) ⌝ }
 {
     let n = i.files;
-    let homes = homes(image, i);
     let mut sound = true;
     let mut sum: usize = 0;
     let mut f = 0;
     while f < n {
         let e = entries::file(image, i.table + 14 * f);
         let met = marks::meet(marks, rules::file_key(e) % 8192);
-        let own = rules::file_rules(&homes, e);
+        let own = rules::file_rules(homes, e);
         sound = sound & own & !met;
         sum += e.size as usize;
         f += 1;
@@ -121,12 +121,13 @@ fn bytes_sound(image: &[u8], i: Index, sum: usize) -> bool
 }
 
 // The last two sections.
-pub fn files_sound(image: &[u8], i: Index, marks: &mut [u32]) -> bool
+pub fn files_sound(image: &[u8], i: Index, homes: &[u16; 32], marks: &mut [u32]) -> bool
     requires { ⌜ Whole (now image) i ⌝ }
+    requires { ⌜ Homes (now image) (index (now image) .directories) (now homes) ⌝ }
     requires { ⌜ now marks ≡ replicate 256 0 ⌝ }
     ensures { λ r. ⌜ r ≡ (filesSound (now (image .entry)) && bytesSound (now (image .entry))) ⌝ }
 {
-    let t = each_file(image, i, marks);
+    let t = each_file(image, i, homes, marks);
     match t {
         Tally::Unsound => false,
         Tally::Sum(sum) => bytes_sound(image, i, sum),

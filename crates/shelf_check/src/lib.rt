@@ -21,11 +21,12 @@ fn sound(image: &[u8], i: Index) -> bool
     if !check::codes_sound(image, i) {
         return false;
     }
+    let homes = check::homes(image, i);
     let mut marks: [u32; 512] = [0; 512];
     if !check::directories_sound(image, i, &mut marks[256..]) {
         return false;
     }
-    check::files_sound(image, i, &mut marks[..256])
+    check::files_sound(image, i, &homes, &mut marks[..256])
 }
 
 // Whether some bytes are an image, whatever bytes they are.

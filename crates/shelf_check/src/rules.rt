@@ -36,12 +36,12 @@ pub fn within(high: u16) -> u16
     }
 }
 
-// Code c.
+// Code c: a sum of what must be 0, as in a file's entry.
 pub fn code_rules(c: usize, k: Code) -> bool
     requires { ⌜ c < 2 ⌝ }
     ensures { λ r. ⌜ r ≡ all (codeRules c k) ⌝ }
 {
-    ((k.flags % 64) as usize <= 1 - c) & (k.attempts <= 3) & (k.unblocks <= 10) & (k.spare == 0)
+    wide(k.flags) % 64 / (2 - c) + wide(k.attempts) / 4 + wide(k.unblocks) / 11 + wide(k.spare) == 0
 }
 
 // The first byte of a directory's identifier.

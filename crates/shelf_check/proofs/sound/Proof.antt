@@ -10,6 +10,9 @@ codes-sound-requires c κs = search needs
 returns : tie.Need-returns
 returns c = no-codes _ (fails (c .before .codes-sound .ensures) (c .if1 .taken))
 
+homes-requires : tie.Need-homes-requires
+homes-requires c κs = search needs
+
 sub-directories-sound : tie.Need-sub-directories-sound
 sub-directories-sound c = search needs
 
@@ -23,7 +26,7 @@ directories-sound-requires : tie.Need-directories-sound-requires
 directories-sound-requires c κs = search needs
 
 returns-2 : tie.Need-returns-2
-returns-2 c = no-directories _ (holds (c .before .before .before .before .before .codes-sound .ensures) (c .before .before .before .before .if1 .left)) (fails (c .before .before .directories-sound .ensures) (c .if2 .taken))
+returns-2 c = no-directories _ (holds (c .before .before .before .before .before .before .codes-sound .ensures) (c .before .before .before .before .before .if1 .left)) (fails (c .before .before .directories-sound .ensures) (c .if2 .taken))
 
 array-borrow-prefix-marks : tie.Need-array-borrow-prefix-marks
 array-borrow-prefix-marks c = search needs
@@ -35,7 +38,7 @@ files-sound-requires : tie.Need-files-sound-requires
 files-sound-requires c κs = search needs
 
 returns-3 : tie.Need-returns-3
-returns-3 c = image-if _ _ (holds (c .before .before .before .before .before .before .before .before .codes-sound .ensures) (c .before .before .before .before .before .before .before .if1 .left)) (holds (c .before .before .before .before .before .directories-sound .ensures) (c .before .before .before .if2 .left)) (c .before .files-sound .ensures)
+returns-3 c = image-if _ _ (holds (c .before .before .before .before .before .before .before .before .before .before .codes-sound .ensures) (c .before .before .before .before .before .before .before .before .before .if1 .left)) (holds (c .before .before .before .before .before .before .directories-sound .ensures) (c .before .before .before .before .if2 .left)) (c .before .files-sound .ensures)
 
 pub sound-spec : {M : Type 1} → statement M
 sound-spec =
@@ -43,6 +46,7 @@ sound-spec =
     (tie.spec
     codes-sound-requires
     returns
+    homes-requires
     sub-directories-sound
     part-marks-start
     part-marks-end

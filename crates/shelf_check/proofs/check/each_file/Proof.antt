@@ -13,25 +13,22 @@ use Rattle.shelf_check.proofs.check.each_file.Statement.{statement}
 use Rattle.shelf_check.proofs.check.each_file.Tie as tie
 
 abbrev Inv-loop : tie.InvT-loop
-Inv-loop image i marks₀ n homes sound₀ sum₀ f₀ marks sound sum f = (f ≤ n) × (Pass (fileKeeps image) (fileKeys image) f sound marks × ((sum ≤ 65535 * f) × (sum ≡ sizes image f)))
+Inv-loop image i homes marks₀ n sound₀ sum₀ f₀ marks sound sum f = (f ≤ n) × (Pass (fileKeeps image) (fileKeys image) f sound marks × ((sum ≤ 65535 * f) × (sum ≡ sizes image f)))
 
 abbrev μ-loop : tie.MeasureT-loop
-μ-loop image i marks₀ n homes sound₀ sum₀ f₀ marks sound sum f = n - f
-
-homes-requires : tie.Need-homes-requires Inv-loop μ-loop
-homes-requires c κs = search needs
+μ-loop image i homes marks₀ n sound₀ sum₀ f₀ marks sound sum f = n - f
 
 loop-holds : tie.Need-loop-holds Inv-loop μ-loop
-loop-holds c = (omega arith, (pass-none _ _ (c .before .before .before .pre .1), (omega arith, sizes-none _)))
+loop-holds c = (omega arith, (pass-none _ _ (c .before .before .pre .1 .1), (omega arith, sizes-none _)))
 
 mul-file : tie.Need-mul-file Inv-loop μ-loop
-mul-file c = omega (arith, c .before .before .before .before .before .pre .0 .indexed .files)
+mul-file c = omega (arith, c .before .before .before .before .pre .0 .indexed .files)
 
 add-file : tie.Need-add-file Inv-loop μ-loop
-add-file c = omega (arith, c .before .before .before .before .before .before .pre .0 .indexed .files, c .before .before .before .before .before .before .pre .0 .indexed .table)
+add-file c = omega (arith, c .before .before .before .before .before .pre .0 .indexed .files, c .before .before .before .before .before .pre .0 .indexed .table)
 
 file-requires : tie.Need-file-requires Inv-loop μ-loop
-file-requires c κs = file-inside _ _ (c .before .before .before .before .before .before .pre .0) _ (c .before .loop-test .taken)
+file-requires c κs = file-inside _ _ (c .before .before .before .before .before .pre .0) _ (c .before .loop-test .taken)
 
 file-key-requires : tie.Need-file-key-requires Inv-loop μ-loop
 file-key-requires c κs = search needs
@@ -46,27 +43,27 @@ cast-sum : tie.Need-cast-sum Inv-loop μ-loop
 cast-sum c = omega arith
 
 add-sum : tie.Need-add-sum Inv-loop μ-loop
-add-sum c = omega (arith, c .before .before .before .before .before .before .before .before .before .before .loop-test .taken, c .before .before .before .before .before .before .before .before .before .before .before .before .before .before .before .pre .0 .indexed .files, c .before .before .before .before .before .before .before .before .before .before .before .loop .inv .1 .1 .0)
+add-sum c = omega (arith, c .before .before .before .before .before .before .before .before .before .loop-test .taken, c .before .before .before .before .before .before .before .before .before .before .before .before .before .pre .0 .indexed .files, c .before .before .before .before .before .before .before .before .before .before .loop .inv .1 .1 .0)
 
 add-f : tie.Need-add-f Inv-loop μ-loop
-add-f c = omega (arith, c .before .before .before .before .before .before .before .before .before .before .loop-test .taken, c .before .before .before .before .before .before .before .before .before .before .before .before .before .before .before .pre .0 .indexed .files)
+add-f c = omega (arith, c .before .before .before .before .before .before .before .before .before .loop-test .taken, c .before .before .before .before .before .before .before .before .before .before .before .before .before .pre .0 .indexed .files)
 
 loop-less : tie.Need-loop-less Inv-loop μ-loop
-loop-less c = omega (arith, c .before .before .before .before .before .before .before .before .before .before .loop-test .taken)
+loop-less c = omega (arith, c .before .before .before .before .before .before .before .before .before .loop-test .taken)
 
 loop-again : tie.Need-loop-again Inv-loop μ-loop
 loop-again c =
-    let p = c .before .before .before .before .before .before .before .before .before .before .before .before .before .before .before .pre .0 in
-    let taken = c .before .before .before .before .before .before .before .before .before .before .loop-test .taken in
-    let known = c .before .before .before .before .before .before .before .before .before .before .before .loop .inv .1 in
-    let met = c .before .before .before .before .before .meet .ensures in
-    let read = file-read _ _ p _ _ (c .before .before .before .before .before .before .before .before .file .ensures) in
-    let own = c .before .file-rules .ensures _ (c .before .before .before .before .before .before .before .before .before .before .before .before .homes .ensures) in
-    let pass = file-pass _ (few _ _ p) (omega (arith, taken, p .indexed .files)) read own (c .before .before .before .before .before .before .file-key .ensures) (known .0) (met .0) (met .1) in
+    let p = c .before .before .before .before .before .before .before .before .before .before .before .before .before .pre .0 in
+    let taken = c .before .before .before .before .before .before .before .before .before .loop-test .taken in
+    let known = c .before .before .before .before .before .before .before .before .before .before .loop .inv .1 in
+    let met = c .before .before .before .before .meet .ensures in
+    let read = file-read _ _ p _ _ (c .before .before .before .before .before .before .before .file .ensures) in
+    let own = c .before .file-rules .ensures _ (c .before .before .before .before .before .before .before .before .before .before .before .before .before .pre .1 .0) in
+    let pass = file-pass _ (few _ _ p) (omega (arith, taken, p .indexed .files)) read own (c .before .before .before .before .before .file-key .ensures) (known .0) (met .0) (met .1) in
     (omega (arith, taken), (pass, (omega (arith, known .1 .0, c .struct-known2 .given), sizes-more _ _ _ _ (known .1 .1) (ap (λ (x : Entry). x .size) read))))
 
 same-length : tie.Need-same-length Inv-loop μ-loop
-same-length c = pass-size _ _ (c .before .before .before .before .before .before .pre .1) (c .before .before .loop .inv .1 .0)
+same-length c = pass-size _ _ (c .before .before .before .before .before .pre .1 .1) (c .before .before .loop .inv .1 .0)
 
 returns : tie.Need-returns Inv-loop μ-loop
 returns c =
@@ -74,7 +71,7 @@ returns c =
     tally-sum _ _ _ _ (l .0) (c .before .loop-test .left) (sym (pass-end _ _ _ _ (l .0) (c .before .loop-test .left) (l .1 .0)) ∙ c .if1 .taken) (l .1 .1 .1)
 
 same-length-2 : tie.Need-same-length-2 Inv-loop μ-loop
-same-length-2 c = pass-size _ _ (c .before .before .before .before .before .before .pre .1) (c .before .before .loop .inv .1 .0)
+same-length-2 c = pass-size _ _ (c .before .before .before .before .before .pre .1 .1) (c .before .before .loop .inv .1 .0)
 
 returns-2 : tie.Need-returns-2 Inv-loop μ-loop
 returns-2 c =
@@ -87,7 +84,6 @@ each-file-spec =
     (tie.spec
     Inv-loop
     μ-loop
-    homes-requires
     loop-holds
     mul-file
     add-file
