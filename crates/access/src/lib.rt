@@ -1,4 +1,6 @@
 // Access conditions, invalidation, and the refusals that every command on a file shares.
+#![tactic(auto)]
+
 ghost use Rattle.std.specs.Prelude.{◌≡◌, []};
 ghost use Rattle.card.specs.Access.{level, fulfilled, allowed, valid, usable, barred, shared};
 ghost use Rattle.card.specs.Answers.{first};

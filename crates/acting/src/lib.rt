@@ -1,4 +1,6 @@
 // What a command of the right form does.
+#![tactic(auto)]
+
 ghost use Rattle.std.specs.Prelude.{◌≤◌, length};
 ghost use Rattle.acts.specs.Leaves.{Leaves};
 ghost use Rattle.acts.specs.Ready.{Ready};

@@ -1,5 +1,7 @@
 // VERIFY, CHANGE, DISABLE, ENABLE and UNBLOCK on an image. The 20 bytes of the code's entry go on as a part of the image, and the command
 // sees nothing else of it.
+#![tactic(auto)]
+
 ghost use Rattle.std.specs.Prelude.{◌≡◌, ◌<◌, length};
 ghost use Rattle.card.specs.Codes.{verify, change, disable, enable, unblock};
 ghost use Rattle.acts.specs.Leaves.{Codes};

@@ -1,4 +1,6 @@
 // INVALIDATE and REHABILITATE on an image: they write the current file's mark. Without a current file each answers 94 00.
+#![tactic(auto)]
+
 ghost use Rattle.card.specs.Marks.{invalidate, rehabilitate};
 ghost use Rattle.acts.specs.Leaves.{Marks};
 ghost use Rattle.acts.specs.Ready.{Ready};

@@ -1,5 +1,7 @@
 // READ BINARY, READ RECORD and SEEK on an image: the current file's entry is read once, and its bytes are passed on as a part of the image.
 // Without a current file each answers 94 00.
+#![tactic(auto)]
+
 ghost use Rattle.std.specs.Prelude.{List, ℕ, ◌/◌, ◌≤◌, ◌<◌, length};
 ghost use Rattle.card.specs.Binary.{read_binary};
 ghost use Rattle.card.specs.Records.{read_record};

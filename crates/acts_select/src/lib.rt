@@ -1,4 +1,6 @@
 // SELECT and STATUS on an image. What decides sees the head alone, which is all before the files' bytes.
+#![tactic(auto)]
+
 ghost use Rattle.std.specs.Prelude.{◌≡◌, List, ℕ, ◌<◌, ◌≤◌, length};
 ghost use Rattle.card.specs.Layout.{head};
 ghost use Rattle.card.specs.Select.{first_pointer, select, tell_status};
@@ -13,7 +15,7 @@ use commands_select::select::{selected, tell_status};
 use shelf::read;
 
 // What SELECT enters, from where the bytes on it stand in these, and how many they are.
-#[derive(Drop)]
+#[derive(Clone, Copy)]
 struct Found {
     directory: usize,
     current: Current,

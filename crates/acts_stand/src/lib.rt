@@ -1,4 +1,6 @@
 // What a command on the current file goes by, read from the image once: the laws of such a command stand beside it.
+#![tactic(auto)]
+
 ghost use Rattle.std.specs.Prelude.{◌≡◌, ◌+◌, ◌*◌, ◌<◌, ◌≤◌, length};
 ghost use Rattle.card.specs.Access.{rights};
 ghost use Rattle.card.specs.Layout.{start};
@@ -13,7 +15,7 @@ use parts::wide_word;
 use shelf::read;
 
 // The rights, the file's entry and the entry's place.
-#[derive(Drop)]
+#[derive(Clone, Copy)]
 pub struct Site {
     pub rights: Rights,
     pub entry: Entry,
@@ -21,7 +23,7 @@ pub struct Site {
 }
 
 // The same, and where the file's bytes start and end.
-#[derive(Drop)]
+#[derive(Clone, Copy)]
 pub struct Place {
     pub rights: Rights,
     pub entry: Entry,

@@ -1,5 +1,7 @@
 // UPDATE BINARY, UPDATE RECORD and INCREASE on an image: the current file's entry is read once, and its bytes are passed on as a part of
 // the image. Without a current file each answers 94 00.
+#![tactic(auto)]
+
 ghost use Rattle.std.specs.Prelude.{◌≡◌, length};
 ghost use Rattle.card.specs.Binary.{update_binary};
 ghost use Rattle.card.specs.Increase.{increase_by};

@@ -1,7 +1,8 @@
 // The values that the player and its callers share. What they mean is the definition, in specs/.
+#![tactic(auto)]
 
 // The host's answer to a command; `number` of the definition gives the paper's number.
-#[derive(Drop)]
+#[derive(Clone, Copy)]
 pub enum Answer {
     Played,
     NotAnImage,
@@ -11,21 +12,21 @@ pub enum Answer {
 }
 
 // The record pointer.
-#[derive(Drop)]
+#[derive(Clone, Copy)]
 pub enum Pointer {
     Undefined,
     At(usize),
 }
 
 // The current elementary file, by its number in the image.
-#[derive(Drop)]
+#[derive(Clone, Copy)]
 pub enum Current {
     Nothing,
     File(usize),
 }
 
 // What a card remembers between two commands.
-#[derive(Drop)]
+#[derive(Clone, Copy)]
 pub struct Session {
     pub directory: usize,
     pub current: Current,
@@ -37,7 +38,7 @@ pub struct Session {
 }
 
 // How many entries the sections of an image have, and where the first of each stands.
-#[derive(Drop)]
+#[derive(Clone, Copy)]
 pub struct Index {
     pub codes: usize,
     pub directories: usize,
@@ -48,7 +49,7 @@ pub struct Index {
 }
 
 // A code's entry, but for the two codes.
-#[derive(Drop)]
+#[derive(Clone, Copy)]
 pub struct Code {
     pub flags: u8,
     pub attempts: u8,
@@ -57,7 +58,7 @@ pub struct Code {
 }
 
 // A directory's entry.
-#[derive(Drop)]
+#[derive(Clone, Copy)]
 pub struct Directory {
     pub identifier: u16,
     pub parent: u8,
@@ -68,7 +69,7 @@ pub struct Directory {
 }
 
 // A file's entry: `home` is the number of its directory, `width` its record length.
-#[derive(Drop)]
+#[derive(Clone, Copy)]
 pub struct Entry {
     pub identifier: u16,
     pub home: u8,
@@ -85,14 +86,14 @@ pub struct Entry {
 }
 
 // Which of access levels 1 and 2 the codes and the session fulfil.
-#[derive(Drop)]
+#[derive(Clone, Copy)]
 pub struct Rights {
     pub level1: bool,
     pub level2: bool,
 }
 
 // What is done to a file.
-#[derive(Drop)]
+#[derive(Clone, Copy)]
 pub enum Act {
     Read,
     Seek,
@@ -103,7 +104,7 @@ pub enum Act {
 }
 
 // The commands of the interface.
-#[derive(Drop)]
+#[derive(Clone, Copy)]
 pub enum Instruction {
     Select,
     Status,

@@ -2,7 +2,7 @@
 ghost use Rattle.std.specs.Prelude.{◌≡◌};
 ghost use Rattle.cases.specs.Operations.{operation_of};
 
-#[derive(Drop)]
+#[derive(Clone, Copy)]
 pub enum Operation {
     Decode,
     Encode,

@@ -1,7 +1,7 @@
 // What a decode shows: an answer, and a value's bytes.
 use codings::Answer;
 
-#[derive(Drop)]
+#[derive(Clone, Copy)]
 pub struct Shown {
     pub answer: Answer,
     pub value: [u8; 20],

@@ -1,4 +1,6 @@
 // The decode of a case, and the answer to an unknown operation. What they mean is the definition, in `cases`.
+#![tactic(auto)]
+
 mod shown;
 
 ghost use Rattle.std.specs.Prelude.{◌≡◌};

@@ -1,4 +1,6 @@
 // The encode of a case. What it means is the definition, in `cases`.
+#![tactic(auto)]
+
 mod values;
 
 ghost use Rattle.std.specs.Prelude.{◌≡◌};

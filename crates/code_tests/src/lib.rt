@@ -1,5 +1,7 @@
 // The test of a code, which the five commands on codes share, on the 20 bytes of its entry. The functions of this crate ask what was tested
 // before, and only this player's crates call them.
+#![tactic(auto)]
+
 ghost use Rattle.std.specs.Prelude.{◌≡◌, ◌+◌, ◌≤◌, ◌<◌, length};
 ghost use Rattle.card.specs.Bytes.{part, same};
 ghost use Rattle.card.specs.Answers.{first};
@@ -14,7 +16,7 @@ use parts::wide;
 use sessions::{dropped, presents};
 
 // Which of an entry's two codes a command tests.
-#[derive(Drop)]
+#[derive(Clone, Copy)]
 pub enum Key {
     Chv,
     Unblocking,

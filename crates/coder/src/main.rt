@@ -1,5 +1,7 @@
 // Decodes and encodes the cases on standard input: their number, and for each its kind, its operation, its file's bytes and
 // its value's bytes after their counts. One line a case, written before the next is read.
+#![tactic(auto)]
+
 ghost use Rattle.std.specs.Prelude.{◌≡◌, ◌≤◌, ◌<◌, length};
 ghost use Rattle.io.specs.Counts.{IsPrefixLen};
 

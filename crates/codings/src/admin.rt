@@ -1,13 +1,13 @@
 // The administrative data: mode of operation and length of the MNC in the IMSI.
 use crate::Answer;
 
-#[derive(Drop)]
+#[derive(Clone, Copy)]
 pub enum MncLength {
     Absent,
     Digits(u8),
 }
 
-#[derive(Drop)]
+#[derive(Clone, Copy)]
 pub struct Admin {
     pub answer: Answer,
     pub mode: u8,

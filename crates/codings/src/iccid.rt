@@ -1,7 +1,7 @@
 // The card's own number.
 use crate::Answer;
 
-#[derive(Drop)]
+#[derive(Clone, Copy)]
 pub struct Iccid {
     pub answer: Answer,
     pub digits: [u8; 20],

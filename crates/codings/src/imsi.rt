@@ -1,7 +1,7 @@
 // The subscriber's number.
 use crate::Answer;
 
-#[derive(Drop)]
+#[derive(Clone, Copy)]
 pub struct Imsi {
     pub answer: Answer,
     pub digits: [u8; 15],

@@ -1,14 +1,14 @@
 // The service table: two bits a service, four services a byte.
 use crate::Answer;
 
-#[derive(Drop)]
+#[derive(Clone, Copy)]
 pub enum Service {
     NotAllocated,
     Allocated,
     Activated,
 }
 
-#[derive(Drop)]
+#[derive(Clone, Copy)]
 pub struct Look {
     pub answer: Answer,
     pub service: Service,

@@ -1,7 +1,7 @@
 // The service provider's name.
 use crate::Answer;
 
-#[derive(Drop)]
+#[derive(Clone, Copy)]
 pub struct Spn {
     pub answer: Answer,
     pub bit1: bool,

@@ -1,4 +1,6 @@
 // The administrative data, mode of operation and length of the MNC in the IMSI, read and written.
+#![tactic(auto)]
+
 ghost use Rattle.std.specs.Prelude.{◌≡◌};
 ghost use Rattle.codings.specs.Answers.{told};
 ghost use Rattle.codings.specs.Admin.{setting, is_mode, two_or_three, decode, encode};

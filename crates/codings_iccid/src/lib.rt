@@ -1,4 +1,6 @@
 // The card's own number: its digits read and written.
+#![tactic(auto)]
+
 ghost use Rattle.std.specs.Prelude.{◌≡◌, []};
 ghost use Rattle.codings.specs.Answers.{number, outcome, told};
 ghost use Rattle.codings.specs.Iccid.{Shows, decode, encode};

@@ -1,4 +1,6 @@
 // The subscriber's number: its digits read and written.
+#![tactic(auto)]
+
 ghost use Rattle.std.specs.Prelude.{◌≡◌, []};
 ghost use Rattle.codings.specs.Answers.{number, outcome, told};
 ghost use Rattle.codings.specs.Imsi.{Shows, mark, decode, encode};

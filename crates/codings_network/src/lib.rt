@@ -1,4 +1,6 @@
 // The entry of a network in a list of networks, read and written.
+#![tactic(auto)]
+
 ghost use Rattle.std.specs.Prelude.{◌≡◌, [], ◌∷◌, ◌<◌, length};
 ghost use Rattle.codings.specs.Answers.{told};
 ghost use Rattle.codings.specs.Network.{named, network, decode, encode};

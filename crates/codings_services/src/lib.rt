@@ -1,4 +1,6 @@
 // The service table, two bits a service, four services a byte: a service read and written.
+#![tactic(auto)]
+
 ghost use Rattle.std.specs.Prelude.{◌≡◌, ◌<◌};
 ghost use Rattle.codings.specs.Answers.{told};
 ghost use Rattle.codings.specs.Services.{unit, pair_of, said, says, changed, read, write};

@@ -1,4 +1,6 @@
 // The service provider's name, read and written.
+#![tactic(auto)]
+
 ghost use Rattle.std.specs.Prelude.{◌≡◌, [], false};
 ghost use Rattle.codings.specs.Answers.{number, outcome, told};
 ghost use Rattle.codings.specs.Spn.{Shows, provider, bits, decode, encode};

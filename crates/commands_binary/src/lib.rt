@@ -1,5 +1,7 @@
 // READ BINARY and UPDATE BINARY, by value: on a file's entry, its bytes and a session. Each is the definition's function of its name. The
 // functions of this crate ask what was tested before, and only this player's crates call them.
+#![tactic(auto)]
+
 ghost use Rattle.std.specs.Prelude.{◌≡◌, ◌≤◌, length};
 ghost use Rattle.card.specs.Answers.{first};
 ghost use Rattle.card.specs.Binary.{binary, read_binary, update_binary};

@@ -1,5 +1,7 @@
 // INCREASE, by value: on a file's entry, its bytes and a session. It is the definition's function of its name. The functions of this crate
 // ask what was tested before, and only this player's crates call them.
+#![tactic(auto)]
+
 ghost use Rattle.std.specs.Prelude.{◌≡◌, ◌++◌, ◌+◌, ◌≤◌, ◌<◌, length, replicate};
 ghost use Rattle.card.specs.Increase.{amount, amount_bytes, increase_by};
 ghost use Rattle.commands.specs.Gives.{Writes};

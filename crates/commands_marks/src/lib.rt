@@ -1,5 +1,7 @@
 // INVALIDATE and REHABILITATE, by value: on a file's entry and a session. Each is the definition's function of its name. Only this player's
 // crates call them.
+#![tactic(auto)]
+
 ghost use Rattle.std.specs.Prelude.{◌≡◌, ◌<◌};
 ghost use Rattle.card.specs.Marks.{invalidate, rehabilitate};
 ghost use Rattle.commands.specs.Gives.{Marks};
@@ -10,7 +12,7 @@ use commands::answers::{Reply, refusal, silent};
 use sessions::dropped;
 
 // A reply, and the file's status afterwards.
-#[derive(Drop)]
+#[derive(Clone, Copy)]
 pub struct Marked {
     pub reply: Reply,
     pub status: u8,

@@ -1,5 +1,7 @@
 // READ RECORD and UPDATE RECORD, by value: on a file's entry, its bytes and a session. Each is the definition's function of its name. The
 // functions of this crate ask what was tested before, and only this player's crates call them.
+#![tactic(auto)]
+
 ghost use Rattle.std.specs.Prelude.{◌≡◌, ◌+◌, ◌-◌, ◌%◌, ◌≤◌, ◌<◌, length};
 ghost use Rattle.card.specs.Answers.{first};
 ghost use Rattle.card.specs.Layout.{records};
@@ -16,7 +18,7 @@ use parts::{lay, low, put, wide, wide_word};
 use sessions::{dropped, points};
 
 // A reply, and the file's top afterwards.
-#[derive(Drop)]
+#[derive(Clone, Copy)]
 pub struct Written {
     pub reply: Reply,
     pub top: u8,

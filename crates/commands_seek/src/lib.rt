@@ -1,5 +1,7 @@
 // SEEK, by value: on a file's entry, its bytes and a session. It is the definition's function of its name. The functions of this crate ask
 // what was tested before, and only this player's crates call them.
+#![tactic(auto)]
+
 ghost use Rattle.std.specs.Prelude.{◌≡◌, ℕ, ◌+◌, ◌*◌, ◌/◌, ◌≤◌, ◌<◌, length};
 ghost use Rattle.card.specs.Bytes.{find};
 ghost use Rattle.card.specs.Layout.{transparent, records};

@@ -1,5 +1,7 @@
 // The playing program: reads an image and commands from standard input, and writes one line a command. What a command answers is all in
 // `player`; here is only reading and printing.
+#![tactic(auto)]
+
 mod line;
 
 ghost use Rattle.std.specs.Prelude.{◌≤◌, ◌≡◌, true, length};
@@ -9,7 +11,7 @@ use card::Session;
 use streams::{input, short_input};
 
 // Whether a command came, and the session after it.
-#[derive(Drop)]
+#[derive(Clone, Copy)]
 struct Turn {
     came: bool,
     session: Session,

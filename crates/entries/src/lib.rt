@@ -1,4 +1,6 @@
 // Words and entries of an image whose bytes are all there, where no byte's place is tested, and what an entry says of its records. Only this player's crates call these.
+#![tactic(auto)]
+
 ghost use Rattle.std.specs.Prelude.{◌≡◌, ◌+◌, ◌*◌, ◌≤◌, length};
 ghost use Rattle.card.specs.Bytes.{word};
 ghost use Rattle.card.specs.Layout.{code_entry, directory_entry, file_entry, records};

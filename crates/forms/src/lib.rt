@@ -1,4 +1,6 @@
 // The instruction of a command, whether its P1, P2 and P3 are right, and how many data bytes follow.
+#![tactic(auto)]
+
 ghost use Rattle.std.specs.Prelude.{◌≡◌, [], ◌∷◌, ◌≤◌};
 ghost use Rattle.card.specs.Answers.{first, ◌says◌};
 ghost use Rattle.card.specs.Forms.{formed, instruction_of, sent};

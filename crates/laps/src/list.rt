@@ -4,7 +4,7 @@ ghost use Rattle.std.specs.Prelude.{◌<◌, ◌≤◌, length};
 use streams::input;
 
 // Where a command's bytes stand.
-#[derive(Drop)]
+#[derive(Clone, Copy)]
 pub struct Span {
     pub from: usize,
     pub end: usize,
@@ -35,7 +35,7 @@ pub fn command_at(list: &[u8], at: usize) -> Span
 }
 
 // Whether what was asked came, and where it ends.
-#[derive(Drop)]
+#[derive(Clone, Copy)]
 pub struct Place {
     pub came: bool,
     pub end: usize,

@@ -2,6 +2,8 @@
 // session are tested at the start of each lap), the number of laps, and the playing program's input. Image and session go on from lap to
 // lap, and no line is written for a command; at the end one line tells two sums modulo 2^32: over all commands 7 times the host answer,
 // 3 times the response count and the response's bytes; and over the image (i + 1) times byte i.
+#![tactic(auto)]
+
 mod list;
 mod sums;
 
@@ -12,7 +14,7 @@ use card::Session;
 use streams::{input, short_input};
 
 // The sum so far and the session.
-#[derive(Drop)]
+#[derive(Clone, Copy)]
 struct Lap {
     sum: u32,
     session: Session,

@@ -1,4 +1,6 @@
 // Lists of commands on one image, played by one call.
+#![tactic(auto)]
+
 ghost use Rattle.std.specs.Prelude.{◌≡◌, true, ◌≤◌, length, drop};
 ghost use Rattle.acts.specs.Ready.{Ready};
 ghost use Rattle.card.specs.Play.{play};
@@ -12,7 +14,7 @@ use parts::wide_word;
 use player::Played;
 
 // How a list of commands ends: how many were played, how many bytes of the answers were written, and the session afterwards.
-#[derive(Drop)]
+#[derive(Clone, Copy)]
 pub struct Ran {
     pub played: usize,
     pub written: usize,

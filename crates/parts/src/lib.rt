@@ -1,4 +1,6 @@
 // Parts of lent bytes.
+#![tactic(auto)]
+
 ghost use Rattle.std.specs.Prelude.{◌≡◌, ◌+◌, ◌≤◌, ◌<◌, length};
 ghost use Rattle.card.specs.Bytes.{part, splice};
 ghost use Rattle.card.specs.Answers.{laid};
@@ -30,7 +32,7 @@ pub fn lay(b: &[u8], at: usize, n: usize, room: &mut [u8])
     ensures { room.new ≡ laid room.old (part b.now at n) }
 {
     let end = at + n;
-    bytes::copy(&b[at..end], room);
+    room[..n].copy_from_slice(&b[at..end]);
 }
 
 // The bytes from a place on become others. Only this player's crates call it.
@@ -39,5 +41,5 @@ pub fn put(b: &mut [u8], at: usize, new: &[u8])
     ensures { b.new ≡ splice b.old at (length new.now) new.now }
 {
     let end = at + new.len();
-    bytes::copy(new, &mut b[at..end]);
+    b[at..end].copy_from_slice(new);
 }

@@ -1,4 +1,6 @@
 // One command on an image, a session and a room.
+#![tactic(auto)]
+
 mod perform;
 
 ghost use Rattle.std.specs.Prelude.{length};
@@ -11,7 +13,7 @@ use perform::decline;
 use shelf_check::examine;
 
 // How a command ends: the host's answer, how many bytes of the room are the response, and the session afterwards.
-#[derive(Drop)]
+#[derive(Clone, Copy)]
 pub struct Played {
     pub answer: Answer,
     pub count: usize,
@@ -19,7 +21,7 @@ pub struct Played {
 }
 
 // The same but for the session, which is stored where it was lent.
-#[derive(Drop)]
+#[derive(Clone, Copy)]
 pub struct Lent {
     pub answer: Answer,
     pub count: usize,

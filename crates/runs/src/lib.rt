@@ -1,5 +1,7 @@
 // Runs of commands on one image. It is tested once: an image stays an image and a session goes on fitting it, as the demands prove, so
 // each further command needs no test.
+#![tactic(auto)]
+
 ghost use Rattle.std.specs.Prelude.{◌≡◌, true, ◌&&◌, length, ◌<◌};
 ghost use Rattle.acts.specs.Ready.{Ready};
 ghost use Rattle.card.specs.Answers.{number};

@@ -1,4 +1,6 @@
 // The table of forms: which P1, P2 and P3 each instruction takes, and whether it sends data.
+#![tactic(auto)]
+
 ghost use Rattle.std.specs.Prelude.{◌≡◌};
 ghost use Rattle.card.specs.Forms.{form_of, sending, asking};
 ghost use Rattle.shapes.specs.Means.{pairs, counts, meaning};
@@ -6,7 +8,7 @@ ghost use Rattle.shapes.specs.Means.{pairs, counts, meaning};
 use card::Instruction;
 
 // Which P1 and P2 are right.
-#[derive(Drop)]
+#[derive(Clone, Copy)]
 pub enum Pair {
     Both(u8, u8),
     Any,
@@ -16,7 +18,7 @@ pub enum Pair {
 }
 
 // Which P3 is right, and the word for any other.
-#[derive(Drop)]
+#[derive(Clone, Copy)]
 pub enum Count {
     Exactly(u8, u16),
     UpTo(u8, u16),
@@ -24,7 +26,7 @@ pub enum Count {
     Free,
 }
 
-#[derive(Drop)]
+#[derive(Clone, Copy)]
 pub struct Shape {
     pub known: bool,
     pub pair: Pair,

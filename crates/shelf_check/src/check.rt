@@ -57,7 +57,7 @@ pub fn directories_sound(image: &[u8], i: Index, marks: &mut [u32]) -> bool
 }
 
 // Whether every file keeps its rules, and then the sum of their sizes.
-#[derive(Drop)]
+#[derive(Clone, Copy)]
 pub enum Tally {
     Unsound,
     Sum(usize),

@@ -1,4 +1,6 @@
 // Tests an image of the shelf form, and whether a session fits it.
+#![tactic(auto)]
+
 mod check;
 mod fit;
 mod marks;

@@ -1,4 +1,6 @@
 // What SELECT finds: a directory that an identifier leads to, and a file that it names.
+#![tactic(auto)]
+
 ghost use Rattle.std.specs.Prelude.{◌≡◌, ◌+◌, ◌*◌, ◌<◌, ◌≤◌, length};
 ghost use Rattle.card.specs.Layout.{file};
 ghost use Rattle.card.specs.Select.{leads, named, find_directory, find_file};

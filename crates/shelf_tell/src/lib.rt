@@ -1,4 +1,6 @@
 // What SELECT and STATUS tell of a directory and of a file.
+#![tactic(auto)]
+
 ghost use Rattle.std.specs.Prelude.{◌≡◌, ◌++◌, ◌+◌, ◌*◌, ◌<◌, ◌≤◌, ◌/◌, ◌%◌, length, replicate};
 ghost use Rattle.card.specs.Bytes.{bit};
 ghost use Rattle.card.specs.Layout.{disabled, file};

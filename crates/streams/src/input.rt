@@ -4,7 +4,7 @@ ghost use Rattle.std.specs.Prelude.{◌+◌, ◌*◌, ◌<◌, ◌≡◌};
 use libc::STDIN_FILENO;
 
 // A two-byte count; nothing came where the input ends before it.
-#[derive(Drop)]
+#[derive(Clone, Copy)]
 pub struct Count {
     pub came: bool,
     pub value: usize,

@@ -1,4 +1,6 @@
 // What the programs share: reading counts and bytes from standard input, and text for standard output.
+#![tactic(auto)]
+
 pub mod input;
 pub mod text;
 
