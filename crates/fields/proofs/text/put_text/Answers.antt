@@ -8,12 +8,15 @@ use Rattle.fields.proofs.text.put_text.Goals as goal
 
 pub slice_bounds-place-end : goal.slice_bounds-place-end
 slice_bounds-place-end c = sym
-    (length-take-le c.lead.result c.args.field.now c.lead.ensures.1)
+    (length-take-le c.lead-count.result c.args.field.now c.lead-count.ensures.1)
 
 pub place-requires : goal.place-requires
 place-requires c = omega
-    (arith, length-take-le c.lead.result c.args.field.now c.lead.ensures.1)
+    (arith, length-take-le c.lead-count.result c.args.field.now c.lead-count.ensures.1)
 
 pub returns : goal.returns
-returns c = let lead = c.lead.ensures.0 in
-    (counts _ _ _ lead, places _ _ _ lead _ _ c.place.ensures)
+returns c =
+    record {
+      value = counts _ _ _ c.lead-count.ensures.0;
+      out_after = places _ _ _ c.lead-count.ensures.0 _ _ c.place.ensures;
+    }
