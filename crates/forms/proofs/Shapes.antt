@@ -28,9 +28,9 @@ module _ (i : Instruction) (f : Shape) (p q n : ℕ) (e : form_of i ≡ meaning 
   not_paired b k r h =
       holding (not (pairs f.pair p q)) 0x6b00 _ (ap not (sym r) ∙ h) ∙ passing (not f.known) 0x6d00 _ k ∙ shaped
 
-  pub decodes_by_count : (b : Bool) (w : ℕ) → not f.known ≡ false → b ≡ pairs f.pair p q → not b ≡ false
+  pub by_count : (b : Bool) (w : ℕ) → not f.known ≡ false → b ≡ pairs f.pair p q → not b ≡ false
       → w ≡ first (counts f.count n ∷ []) → w ≡ first (formed i p q n)
-  decodes_by_count b w k r h c =
+  by_count b w k r h c =
       c ∙ passing (not (pairs f.pair p q)) 0x6b00 _ (ap not (sym r) ∙ h) ∙ passing (not f.known) 0x6d00 _ k ∙ shaped
 
 module _ (i : Instruction) (f : Shape) (n : ℕ) (e : form_of i ≡ meaning f) where
