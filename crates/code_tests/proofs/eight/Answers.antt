@@ -1,0 +1,8 @@
+-- `code_tests::eight` meets its contract.
+use Rattle.code_tests.proofs.Bytewise.{read}
+use borrow.Author.Rules.{rules}
+use Rattle.code_tests.proofs.eight.Goals as goal
+
+pub returns : goal.returns
+returns c = let a = c.args in
+    read a.l.now a.at c.requires
