@@ -1,0 +1,15 @@
+-- `acts_marks::invalidate` meets its contract.
+use borrow.Author.Rules.{rules}
+use Rattle.card.specs.Marks.{invalidate}
+use Rattle.card.specs.Play.{marks}
+use Rattle.acts_stand.proofs.Carried.{none}
+use Rattle.acts_marks.proofs.Marking.{has_marked}
+use Rattle.acts_marks.proofs.invalidate.Goals as goal
+
+pub returns-in_default : goal.returns-in_default
+returns-in_default c = none marks (λ r e b. invalidate r e c.args.s) c.requires
+    c.in_default.is c.refusal.ensures
+
+pub returns : goal.returns
+returns c = let a = c.args in
+    has_marked c.spot-p.ensures (λ r e. invalidate r e a.s) c.invalidate-marked.ensures
