@@ -1,0 +1,6 @@
+-- `shelf_check::rules::zeros` meets its contract: one law, from what each call says.
+use Rattle.shelf_check.proofs.OneEntry.{zero-rules}
+use Rattle.shelf_check.proofs.rules.zeros.Goals as goal
+
+pub returns : goal.returns
+returns c = zero-rules _ _ _ _ _ c.wide-status.ensures.0 c.wide.ensures.0 c.wide-2.ensures.0 c.wide-3.ensures.0
