@@ -22,11 +22,11 @@ select-requires c = c.requires.ready
 
 pub status-requires : goal.status-requires
 unfolding act
-status-requires c = (c.requires.ready, (asks c.requires.right.0 c.in-Status.is, omega arith))
+status-requires c = record { ready = c.requires.ready; n_bound = (asks c.requires.right c.in-Status.is, omega arith) }
 
 pub read_binary-requires : goal.read_binary-requires
 unfolding act
-read_binary-requires c = (c.requires.ready, omega (arith, c.wanted.ensures.1 (omega arith)))
+read_binary-requires c = record { ready = c.requires.ready; n_in_bounds = omega (arith, c.wanted.ensures.1 (omega arith)) }
 
 pub update_binary-requires : goal.update_binary-requires
 unfolding act
@@ -34,7 +34,7 @@ update_binary-requires c = c.requires.ready
 
 pub read_record-requires : goal.read_record-requires
 unfolding act
-read_record-requires c = (c.requires.ready, omega arith)
+read_record-requires c = record { ready = c.requires.ready; n_in_bounds = omega arith }
 
 pub update_record-requires : goal.update_record-requires
 unfolding act
@@ -42,39 +42,39 @@ update_record-requires c = c.requires.ready
 
 pub seek_record-requires : goal.seek_record-requires
 unfolding act
-seek_record-requires c = (c.requires.ready, seeks c.requires.right.0 c.in-Seek.is)
+seek_record-requires c = record { ready = c.requires.ready; mode_bound = seeks c.requires.right c.in-Seek.is }
 
 pub increase_by-requires : goal.increase_by-requires
 unfolding act
-increase_by-requires c = (c.requires.ready, increases c.requires.right.0 c.in-Increase.is)
+increase_by-requires c = record { ready = c.requires.ready; added_len = increases c.requires.right c.in-Increase.is }
 
 pub overflow_sub-q : goal.overflow_sub-q
 unfolding act
-overflow_sub-q c = omega (arith, (verifies c.requires.right.0 c.in-Verify.is).0)
+overflow_sub-q c = omega (arith, (verifies c.requires.right c.in-Verify.is).0)
 
 pub verify-requires : goal.verify-requires
 unfolding act
-verify-requires c = (c.requires.ready, (verifies c.requires.right.0 c.in-Verify.is).1)
+verify-requires c = record { ready = c.requires.ready; c_bound = (verifies c.requires.right c.in-Verify.is).1 }
 
 pub overflow_sub-q-in-Change : goal.overflow_sub-q-in-Change
 unfolding act
-overflow_sub-q-in-Change c = omega (arith, (changes c.requires.right.0 c.in-Change.is).0)
+overflow_sub-q-in-Change c = omega (arith, (changes c.requires.right c.in-Change.is).0)
 
 pub change-requires : goal.change-requires
 unfolding act
-change-requires c = (c.requires.ready, (changes c.requires.right.0 c.in-Change.is).1)
+change-requires c = record { ready = c.requires.ready; c_bound = (changes c.requires.right c.in-Change.is).1 }
 
 pub disable-requires : goal.disable-requires
 unfolding act
-disable-requires c = (c.requires.ready, disables c.requires.right.0 c.in-Disable.is)
+disable-requires c = record { ready = c.requires.ready; given_len = disables c.requires.right c.in-Disable.is }
 
 pub enable-requires : goal.enable-requires
 unfolding act
-enable-requires c = (c.requires.ready, enables c.requires.right.0 c.in-Enable.is)
+enable-requires c = record { ready = c.requires.ready; given_len = enables c.requires.right c.in-Enable.is }
 
 pub unblock-requires : goal.unblock-requires
 unfolding act
-unblock-requires c = (c.requires.ready, unblocks c.requires.right.0 c.in-Unblock.is)
+unblock-requires c = record { ready = c.requires.ready; c_bound = unblocks c.requires.right c.in-Unblock.is }
 
 pub invalidate-requires : goal.invalidate-requires
 unfolding act
