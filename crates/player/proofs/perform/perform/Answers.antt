@@ -1,0 +1,8 @@
+-- `player::perform::perform` meets its contract.
+use borrow.Author.Rules.{rules}
+use Rattle.player.proofs.Ways.{ends, by_name}
+use Rattle.player.proofs.perform.perform.Goals as goal
+
+pub returns : goal.returns
+returns c = let a = c.args in
+    ends (by_name a.image.now a.s a.command.now _ c.instruction_of.ensures) c.perform_as.ensures

@@ -1,0 +1,12 @@
+-- `runs::tested` meets its contract: by the answer of the examination.
+use borrow.Author.Rules.{rules}
+use Rattle.shelf_check.proofs.Examining.{other}
+use Rattle.player.proofs.Ways.{ready}
+use Rattle.runs.proofs.Tests.{passed, stopped}
+use Rattle.runs.proofs.tested.Goals as goal
+
+pub returns-in-Played : goal.returns-in-Played
+returns-in-Played c = passed (ready c.examine-answer.ensures c.in-Played.is)
+
+pub returns-in_default : goal.returns-in_default
+returns-in_default c = stopped c.examine-answer.ensures (other c.examine-answer.result c.in_default.in_default-own.keys2)
