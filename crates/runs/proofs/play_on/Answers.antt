@@ -13,7 +13,7 @@ pub returns-then-known : goal.returns-then-known
 returns-then-known c = let a = c.args in
     let e = c.play_ready.ensures in
     let given = c.requires in
-    (e, λ k. again a.command.now (length a.room.now) (given k) e)
+    record { ends = e; ready = λ k. again a.command.now (length a.room.now) (given k) e }
 
 pub returns : goal.returns
-returns c = (c.play.ensures, λ k. absurd (true≢false (sym k ∙ c.if-known.false)))
+returns c = record { ends = c.play.ensures; ready = λ k. absurd (true≢false (sym k ∙ c.if-known.false)) }

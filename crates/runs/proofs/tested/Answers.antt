@@ -6,7 +6,11 @@ use Rattle.runs.proofs.Tests.{passed, stopped}
 use Rattle.runs.proofs.tested.Goals as goal
 
 pub returns-in-Played : goal.returns-in-Played
-returns-in-Played c = passed (ready c.examine-answer.ensures c.in-Played.is)
+returns-in-Played c =
+    let p = passed (ready c.examine-answer.ensures c.in-Played.is) in
+    record { value = p.0; ready = p.1 }
 
 pub returns-in_default : goal.returns-in_default
-returns-in_default c = stopped c.examine-answer.ensures (other c.examine-answer.result c.in_default.in_default-own.keys2)
+returns-in_default c =
+    let s = stopped c.examine-answer.ensures c.in_default.not-Played in
+    record { value = s.0; ready = s.1 }
