@@ -11,23 +11,6 @@ use Rattle.lists.proofs.Onward.{onward}
 use Rattle.lists.proofs.Sofar.{Sofar, start, goes, tests, stopped, finished}
 use Rattle.lists.proofs.run.Goals as goal
 
--- where a turn goes on, the command is whole and its answer has room
-going : (c : tie.Else2 invariant-loop decreases-loop)
-    → (c.before.before.before.before.loop.at + 2 + word c.before.before.before.before.before.before.before.before.before.before.args.commands.now c.before.before.before.before.loop.at ≤ length c.before.before.before.before.before.before.before.before.before.before.args.commands.now)
-    × (c.before.before.before.before.loop.ran.written + 261 ≤ length c.before.before.before.before.loop.answers)
-going c =
-    let loop = c.before.before.before.before.loop in
-    goes c.before.before.before.before.before.before.before.before.before.before.args.commands.now loop.at _ _ _ c.before.whole.ensures loop.invariant.place c.if2.false
-
--- what is told of a command fits its place
-small : (c : tie.After-step invariant-loop decreases-loop) → 3 + c.step.result.count ≤ 261
-small c =
-    let d = c.before.before.before.before.before.before.before in
-    let is = d.before.before.before.before.loop.answers in
-    let at = d.before.before.before.before.loop.ran.written in
-    let h : 3 + c.step.result.count ≤ length (part is at (at + 261 - at)) = short c.step.ensures.0 c.step.auto.1.1.1.1.0 in
-    omega (arith, h, lent is at (going d).1)
-
 pub loop-ran-init : goal.loop-ran-init
 loop-ran-init c = let a = c.args in
     start a.image.now a.session a.commands.now a.n a.answers.now c.tested-known.result c.tested-known.ensures.ready
@@ -37,35 +20,41 @@ returns-then-not-whole-until c = let f = c.loop-ran.invariant in
     stopped f c.loop-ran-test.true (sym (tests f _ c.whole.ensures) ∙ c.if-not-whole-until.true-raw)
 
 pub word-requires : goal.word-requires
-word-requires c = omega (arith, (going c).0)
+word-requires c = omega (arith, (goes c.args.commands.now c.loop-ran.at _ _ _ c.whole.ensures c.loop-ran.invariant.place c.if-not-whole-until.false-raw).0)
 
 pub overflow_add-at : goal.overflow_add-at
-overflow_add-at c = omega (arith, (going c).0)
+overflow_add-at c = omega (arith, (goes c.args.commands.now c.loop-ran.at _ _ _ c.whole.ensures c.loop-ran.invariant.place c.if-not-whole-until.false-raw).0)
 
 pub slice_bounds-step-end : goal.slice_bounds-step-end
-slice_bounds-step-end c = omega (arith, (going c).0)
+slice_bounds-step-end c = omega (arith, (goes c.args.commands.now c.loop-ran.at _ _ _ c.whole.ensures c.loop-ran.invariant.place c.if-not-whole-until.false-raw).0)
 
 pub slice_bounds-step-end-in-loop-ran : goal.slice_bounds-step-end-in-loop-ran
-slice_bounds-step-end-in-loop-ran c = omega (arith, (going c).1)
+slice_bounds-step-end-in-loop-ran c = omega (arith, (goes c.args.commands.now c.loop-ran.at _ _ _ c.whole.ensures c.loop-ran.invariant.place c.if-not-whole-until.false-raw).1)
 
 pub step-done-requires : goal.step-done-requires
 step-done-requires c = let loop = c.loop-ran in
-    (loop.invariant.ready, lent loop.answers loop.ran.written (going d).1)
+    record { ready = loop.invariant.ready; answer_len = lent loop.answers loop.ran.written (goes c.args.commands.now c.loop-ran.at _ _ _ c.whole.ensures c.loop-ran.invariant.place c.if-not-whole-until.false-raw).1 }
 
 pub overflow_add-played : goal.overflow_add-played
 overflow_add-played c = omega (arith, c.loop-ran-test.true, c.ranges.n)
 
 pub overflow_add-told : goal.overflow_add-told
-overflow_add-told c = omega (arith, small c)
+overflow_add-told c =
+    let told : 3 + c.step-done.result.count ≤ length (part c.loop-ran.answers c.loop-ran.ran.written (c.loop-ran.ran.written + 261 - c.loop-ran.ran.written)) = short c.step-done.ensures.told c.step-done.auto.answer in
+    let room = lent c.loop-ran.answers c.loop-ran.ran.written (goes c.args.commands.now c.loop-ran.at _ _ _ c.whole.ensures c.loop-ran.invariant.place c.if-not-whole-until.false-raw).1 in
+    omega (arith, told, room)
 
 pub overflow_add-written : goal.overflow_add-written
-overflow_add-written c = omega (arith, small c, (going d).1, c.loop-ran.invariant.same', c.well-formed)
+overflow_add-written c =
+    let told : 3 + c.step-done.result.count ≤ length (part c.loop-ran.answers c.loop-ran.ran.written (c.loop-ran.ran.written + 261 - c.loop-ran.ran.written)) = short c.step-done.ensures.told c.step-done.auto.answer in
+    let room = lent c.loop-ran.answers c.loop-ran.ran.written (goes c.args.commands.now c.loop-ran.at _ _ _ c.whole.ensures c.loop-ran.invariant.place c.if-not-whole-until.false-raw).1 in
+    omega (arith, told, room, (goes c.args.commands.now c.loop-ran.at _ _ _ c.whole.ensures c.loop-ran.invariant.place c.if-not-whole-until.false-raw).1, c.loop-ran.invariant.same', c.well_formed)
 
 pub loop-ran-preserved : goal.loop-ran-preserved
 loop-ran-preserved c = let loop = c.loop-ran in
     let call = c.step-done in
     let w = c.wide_word in
-    onward loop.invariant w.result (w.ensures.0 ∙ c.word.ensures) (add-sub_cancel_left _ _) (add-sub_cancel_left loop.ran.written 261) (going d) call.ensures.0 call.auto.1.0 call.auto.1.1.1.1.0 c.loop-ran-test.true (sym (tests loop.invariant _ c.whole.ensures) ∙ c.if-not-whole-until.false-raw) call.ensures.1
+    onward loop.invariant w.result (w.ensures.0 ∙ c.word.ensures) (add-sub_cancel_left _ _) (add-sub_cancel_left loop.ran.written 261) (goes c.args.commands.now c.loop-ran.at _ _ _ c.whole.ensures c.loop-ran.invariant.place c.if-not-whole-until.false-raw) call.ensures.told call.auto.image call.auto.answer c.loop-ran-test.true (sym (tests loop.invariant _ c.whole.ensures) ∙ c.if-not-whole-until.false-raw) call.ensures.ready_2
 
 pub returns : goal.returns
 returns c = finished c.loop-ran.invariant c.loop-ran-test.false

@@ -18,4 +18,7 @@ bounds-answer-2 c = simp length-set (search rules)
 pub returns : goal.returns
 returns c = let a = c.args in
     let call = c.play_on-played in
-    (told a.answer.now call.new.1.1.1.1.0 c.requires.answer_len call.auto.1.1.1.1.0 a.image.now a.session a.command.now _ c.number.ensures.0 call.ensures.0, call.ensures.1)
+    record {
+      told = told a.answer.now call.new.room c.requires.answer_len call.auto.room a.image.now a.session a.command.now _ c.number.ensures.0 call.ensures.ends;
+      ready_2 = call.ensures.ready;
+    }
