@@ -1,7 +1,6 @@
 -- Every row of the table holds, by computation: each definition is opened, and both sides come out the same.
-use Prim.Native.Nat.{ℕ}
 use mathlib.Core.Path.{refl}
-use Rattle.card.specs.Bytes.{byte, word, every, none, how_many, first_from, same}
+use Rattle.card.specs.Bytes.{word, every, none, how_many, first_from, same}
 use Rattle.card.specs.Layout.{index, code_entry, code, directory_entry, directory, file_entry, file, sizes, start, head, contents}
 use Rattle.card.specs.Shelf.{all, code_rules, below, within, twins, directory_rules, twin_files, records_rule, top_rule, file_rules, codes_sound, directories_sound, files_sound, bytes_sound, is_image}
 use Rattle.card.specs.Sessions.{pointed, stands, padded, fits}

@@ -4,7 +4,7 @@ use Rattle.std.specs.Prelude.{ℕ, ◌+◌, ◌*◌, ◌/◌, ◌%◌, List, [],
 use Rattle.fields.specs.Text.{lead}
 use Rattle.cases.specs.Choice.{choose}
 use Rattle.codings.specs.Spn.{Provider, provider, bits}
-use Rattle.codings.specs.Admin.{Setting, setting}
+use Rattle.codings.specs.Admin.{Setting}
 use Rattle.codings.specs.declared.network.Plmn.{Plmn}
 use Rattle.codings.specs.declared.network.Plmn.TheVariants.{Unused, Network}
 use Rattle.codings.specs.declared.services.Service.{Service}

@@ -1,12 +1,12 @@
 // What a decode shows of each kind.
 ghost use Rattle.std.specs.Prelude.{◌≡◌, []};
 ghost use Rattle.codings.specs.Answers.{number, outcome};
-ghost use Rattle.codings.specs.Iccid.{decode as iccidIn};
-ghost use Rattle.codings.specs.Imsi.{decode as imsiIn};
-ghost use Rattle.codings.specs.Network.{decode as networkIn};
-ghost use Rattle.codings.specs.Services.{read as serviceIn};
-ghost use Rattle.codings.specs.Spn.{decode as spnIn};
-ghost use Rattle.codings.specs.Admin.{decode as adminIn};
+ghost use Rattle.codings.specs.Iccid.{decode as iccid_in};
+ghost use Rattle.codings.specs.Imsi.{decode as imsi_in};
+ghost use Rattle.codings.specs.Network.{decode as network_in};
+ghost use Rattle.codings.specs.Services.{read as service_in};
+ghost use Rattle.codings.specs.Spn.{decode as spn_in};
+ghost use Rattle.codings.specs.Admin.{decode as admin_in};
 ghost use Rattle.cases.specs.Values.{entry_bytes, state_byte, state_bytes, provider_bytes, mnc_byte, setting_bytes};
 ghost use Rattle.cases.specs.Shown.{Shows, kept, stricter, without, shown};
 
@@ -77,7 +77,7 @@ pub(crate) fn alone(given: usize, r: Shown) -> Shown
 }
 
 pub(crate) fn iccid(file: &[u8]) -> Shown
-    ensures { Shows result (iccidIn file.now) }
+    ensures { Shows result (iccid_in file.now) }
 {
     let r = codings_iccid::decode(file);
     let answer = r.answer;
@@ -90,7 +90,7 @@ pub(crate) fn iccid(file: &[u8]) -> Shown
 }
 
 pub(crate) fn imsi(file: &[u8]) -> Shown
-    ensures { Shows result (imsiIn file.now) }
+    ensures { Shows result (imsi_in file.now) }
 {
     let r = codings_imsi::decode(file);
     let answer = r.answer;
@@ -105,7 +105,7 @@ pub(crate) fn imsi(file: &[u8]) -> Shown
 }
 
 pub(crate) fn network(file: &[u8]) -> Shown
-    ensures { Shows result (shown entry_bytes (networkIn file.now)) }
+    ensures { Shows result (shown entry_bytes (network_in file.now)) }
 {
     let r = codings_network::decode(file);
     let answer = r.answer;
@@ -135,7 +135,7 @@ fn state_byte(v: Service) -> u8
 }
 
 pub(crate) fn service(file: &[u8], n: usize) -> Shown
-    ensures { Shows result (shown state_bytes (serviceIn file.now n)) }
+    ensures { Shows result (shown state_bytes (service_in file.now n)) }
 {
     let r = codings_services::read(file, n);
     let answer = r.answer;
@@ -146,7 +146,7 @@ pub(crate) fn service(file: &[u8], n: usize) -> Shown
 }
 
 pub(crate) fn spn(file: &[u8]) -> Shown
-    ensures { Shows result (shown provider_bytes (spnIn file.now)) }
+    ensures { Shows result (shown provider_bytes (spn_in file.now)) }
 {
     let r = codings_spn::decode(file);
     let answer = r.answer;
@@ -168,7 +168,7 @@ fn mnc_byte(n: MncLength) -> u8
 }
 
 pub(crate) fn admin(file: &[u8]) -> Shown
-    ensures { Shows result (shown setting_bytes (adminIn file.now)) }
+    ensures { Shows result (shown setting_bytes (admin_in file.now)) }
 {
     let r = codings_admin::decode(file);
     let answer = r.answer;

@@ -1,16 +1,17 @@
-// What the programs share: reading counts and bytes from standard input, and text for standard output.
+// What the programs share: reading counts and bytes from the input, and text for the output.
 #![tactic(auto)]
 
 pub mod input;
 pub mod text;
 
-use libc::STDOUT_FILENO;
+use std::io::Write;
 
-pub fn write(text: &[u8]) {
-    io::write_all(STDOUT_FILENO, text);
+// All of the text, at once. A write that fails is not told.
+pub fn write<W: Write>(output: &mut W, text: &[u8]) {
+    let _ = output.write_all(text);
 }
 
 // Input that ends early.
-pub fn short_input() {
-    write(b"short input\n");
+pub fn short_input<W: Write>(output: &mut W) {
+    write(output, b"short input\n");
 }

@@ -1,5 +1,5 @@
 -- Which of two is chosen.
-use mathlib.Core.Path.{◌≡◌, refl, ◌∙◌}
+use mathlib.Core.Path.{◌≡◌, ◌∙◌}
 use mathlib.Core.Bool.{Bool, true, false, ◌&&◌}
 use Rattle.cases.specs.Choice.{choose}
 

@@ -6,12 +6,12 @@ use mathlib.Core.Bool.{Bool, true, false}
 use borrow.Author.Tests.{eqb-true}
 use lib.Dec.{eqb}
 use Rattle.codings.specs.Answers.{Outcome, outcome, done, judge}
-use Rattle.codings.specs.Iccid.{decode as iccidIn}
-use Rattle.codings.specs.Imsi.{decode as imsiIn}
-use Rattle.codings.specs.Network.{decode as networkIn}
-use Rattle.codings.specs.Services.{read as serviceIn}
-use Rattle.codings.specs.Spn.{decode as spnIn}
-use Rattle.codings.specs.Admin.{decode as adminIn}
+use Rattle.codings.specs.Iccid.{decode as iccid_in}
+use Rattle.codings.specs.Imsi.{decode as imsi_in}
+use Rattle.codings.specs.Network.{decode as network_in}
+use Rattle.codings.specs.Services.{read as service_in}
+use Rattle.codings.specs.Spn.{decode as spn_in}
+use Rattle.codings.specs.Admin.{decode as admin_in}
 use Rattle.cases.specs.Choice.{choose}
 use Rattle.cases.specs.Shown.{shown, alone, refusal}
 use Rattle.cases.specs.Cases.{decode, other}
@@ -47,7 +47,7 @@ unfolding refusal choose
 six = refl
 
 pub lengths : Lengths
-unfolding other decode iccidIn imsiIn networkIn serviceIn spnIn adminIn
+unfolding other decode iccid_in imsi_in network_in service_in spn_in admin_in
 lengths =
     record {
       iccid = λ file. bare _ _ (judged _ _ _ _);

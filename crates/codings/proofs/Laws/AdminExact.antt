@@ -3,13 +3,12 @@ use Prim.Native.Nat.{ℕ, ◌≤◌, ◌<◌}
 use mathlib.Core.Path.{◌≡◌, refl, ap, ◌∙◌, sym}
 use mathlib.Core.Logic.{◌↔◌}
 use mathlib.Core.List.{List, [], ◌∷◌}
-use mathlib.Core.Bool.{Bool, true, false, ◌&&◌, not}
-use native.Mathlib.Omega.{arith}
-use borrow.Author.Tests.{le-leb, lt-leb, leb-true, leb-false}
-use lib.Dec.{leb, eqb}
+use mathlib.Core.Bool.{Bool, true, false, ◌&&◌}
+use borrow.Author.Tests.{le-leb, leb-true, leb-false}
+use lib.Dec.{leb}
 use lib.ListN.{length, get_or}
-use Rattle.codings.specs.Answers.{Outcome, done, judge}
-use Rattle.codings.specs.Admin.{Setting, setting, among, is_mode, two_or_three, mnc_in, fitting, decode, changed, encode}
+use Rattle.codings.specs.Answers.{done, judge}
+use Rattle.codings.specs.Admin.{Setting, setting, among, is_mode, mnc_in, fitting, decode, changed, encode}
 use Rattle.codings.specs.RoundTrips.{AdminCoding}
 use Rattle.codings.specs.declared.admin.MncLength.{MncLength}
 use Rattle.codings.specs.declared.admin.MncLength.TheVariants.{Absent, Digits}

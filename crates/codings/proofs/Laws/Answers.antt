@@ -1,9 +1,8 @@
 -- Each way out of a judgement.
-use Prim.Native.Nat.{ℕ}
-use mathlib.Core.Path.{◌≡◌, refl, ap, ◌∙◌, sym}
+use mathlib.Core.Path.{◌≡◌, refl}
 use mathlib.Core.Bool.{Bool, true, false}
 use native.Mathlib.Omega.{arith}
-use Rattle.codings.specs.Answers.{Outcome, outcome, judge, number, told}
+use Rattle.codings.specs.Answers.{outcome, judge, number}
 use Rattle.codings.specs.declared.Answer.{Answer}
 use Rattle.codings.specs.declared.Answer.TheVariants.{Done, Length, Value}
 

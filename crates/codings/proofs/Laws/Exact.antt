@@ -8,7 +8,7 @@ use native.Mathlib.Omega.{arith}
 use borrow.Author.Tests.{eq-eqb, ne_eqb, eqb-true, eqb-false}
 use lib.Dec.{eqb}
 use lib.ListN.{length}
-use Rattle.codings.specs.Answers.{Outcome, outcome, done, judge}
+use Rattle.codings.specs.Answers.{Outcome, done, judge}
 use Rattle.codings.specs.RoundTrips.{Coding}
 use Rattle.codings.proofs.Laws.Answers.{wrong-length, wrong_value, right, was_five, was_six, refusal}
 

@@ -1,5 +1,5 @@
 -- The IMSI read by its length and by its digits' count is the same.
-use Prim.Native.Nat.{ℕ, zero, suc, ◌+◌, ◌-◌, ◌*◌, ◌/◌, ◌%◌, ◌≤◌}
+use Prim.Native.Nat.{ℕ, zero, suc, ◌+◌, ◌-◌, ◌*◌, ◌%◌, ◌≤◌}
 use mathlib.Core.Path.{◌≡◌, refl, ap, ◌∙◌, sym}
 use mathlib.Core.List.{List, [], ◌∷◌, ◌++◌}
 use mathlib.Core.Bool.{Bool, true, false, ◌&&◌, ◌||◌}
@@ -9,7 +9,7 @@ use borrow.Author.Tests.{eq-eqb, eqb-true, le-leb, leb-true}
 use lib.Dec.{eqb, leb}
 use lib.ListN.{length, get_or, take, drop, replicate, length-drop, length-append, take-append-drop}
 use lib.Seq.{take_all, take-suc, get_or-drop, drop-cons, take-append_seam, length-take-le, get_or-append_seam, append_snoc}
-use Rattle.fields.specs.Halves.{halves, joined}
+use Rattle.fields.specs.Halves.{halves}
 use Rattle.fields.specs.Text.{filled, padded, within}
 use Rattle.codings.specs.Answers.{Outcome, outcome, judge}
 use Rattle.codings.specs.Imsi as imsi

@@ -1,15 +1,14 @@
 -- Any two outcomes that a promise admits are equal: one law over an equation, and one for each array.
 use Prim.Native.Nat.{ℕ}
-use mathlib.Core.Path.{◌≡◌, refl, ap, ◌∙◌, sym}
+use mathlib.Core.Path.{◌≡◌, ap, ◌∙◌, sym}
 use mathlib.Core.List.{List}
-use mathlib.Core.Bool.{Bool}
-use Rattle.codings.specs.Answers.{number, Outcome, told}
+use Rattle.codings.specs.Answers.{Outcome, told}
 use Rattle.codings.specs.Admin.{Setting, setting}
 use Rattle.codings.specs.Spn as spn
 use Rattle.codings.specs.Spn.{Provider}
 use Rattle.codings.specs.Iccid as iccid
 use Rattle.codings.specs.Imsi as imsi
-use Rattle.codings.specs.OneOutcome.{One, Written, OneWritten, OneOutcome}
+use Rattle.codings.specs.OneOutcome.{One, OneWritten, OneOutcome}
 use Rattle.codings.specs.declared.Answer.{Answer}
 use Rattle.codings.specs.declared.iccid.Iccid.{Iccid}
 use Rattle.codings.specs.declared.imsi.Imsi.{Imsi}
@@ -19,7 +18,6 @@ use Rattle.codings.specs.declared.services.Service.{Service}
 use Rattle.codings.specs.declared.services.Look.{Look}
 use Rattle.codings.specs.declared.spn.Spn.{Spn}
 use Rattle.codings.specs.declared.admin.Admin.{Admin}
-use Rattle.codings.specs.declared.admin.MncLength.{MncLength}
 use Rattle.codings.proofs.Laws.Answers.{apart}
 use Rattle.codings.proofs.Laws.Exact.{answer_of, value_of}
 
