@@ -11,7 +11,7 @@ use borrow.Author.Tests.{eqb-true, eqb-false, ltb-false, not-true, not-false}
 use Rattle.card.specs.Bytes.{part, splice}
 use Rattle.card.specs.Layout.{code_at, file, transparent, cyclic, counter, records}
 use Rattle.card.specs.Images.{SoundStatus, SoundTop}
-use Rattle.card.specs.Sessions.{fits, dropped, points}
+use Rattle.card.specs.Sessions.{dropped, points}
 use Rattle.card.specs.Answers.{Reply, refusal, Coded, Marked, Written, effect, first}
 use Rattle.card.specs.Binary.{binary, update_binary}
 use Rattle.card.specs.Records.{update_record, record_at, pushed, updatable}

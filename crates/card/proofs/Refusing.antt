@@ -14,7 +14,7 @@ use Rattle.card.specs.Sessions.{dropped}
 use Rattle.card.specs.Answers.{Reply, reply, refusal, response, Effect}
 use Rattle.card.specs.Codes.{value, attempts_at}
 use Rattle.card.specs.Forms.{instruction_of}
-use Rattle.card.specs.Play.{Outcome, declined, told, opened, headed, filled, afterwards, done}
+use Rattle.card.specs.Play.{Outcome, told, opened, headed, filled, afterwards, done}
 use Rattle.card.specs.Demands.{Answered, AlwaysAnswered, status_word, carried_out, Lowered, Refused, Untouched, RefusalsKeep}
 use Rattle.card.specs.declared.Session.{Session}
 use Rattle.card.specs.declared.Current.{Current}

@@ -8,9 +8,9 @@ use lib.Dec.{eqb, ltb}
 use lib.ListN.{length}
 use borrow.Author.Tests.{eqb-true, eqb-false, ltb-true, ne_eqb, not-true, not-false}
 use Rattle.card.specs.Bytes.{find}
-use Rattle.card.specs.Layout.{index, directory, file, transparent, linear, cyclic, records}
+use Rattle.card.specs.Layout.{index, file, transparent, linear, cyclic, records}
 use Rattle.card.specs.Images.{SoundFile, SoundHead}
-use Rattle.card.specs.Sessions.{pointed, fits, waits, dropped, points, enters}
+use Rattle.card.specs.Sessions.{pointed, waits, dropped, points, enters}
 use Rattle.card.specs.Answers.{Reply, reply, refusal, Effect, effect, first, ◌says◌}
 use Rattle.card.specs.Access.{shared}
 use Rattle.card.specs.Select.{select, tell_status, get_response, directory_response, file_response, named, find_directory, find_file, first_pointer}

@@ -8,7 +8,7 @@ use lib.Dec.{eqb, ltb}
 use lib.ListN.{length, drop}
 use borrow.Author.Tests.{eqb-true}
 use Rattle.card.specs.Bytes.{byte}
-use Rattle.card.specs.Layout.{file, head, contents}
+use Rattle.card.specs.Layout.{file, head}
 use Rattle.card.specs.Shelf.{is_image}
 use Rattle.card.specs.Images.{Image}
 use Rattle.card.specs.Sessions.{fits, reset}

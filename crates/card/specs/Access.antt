@@ -1,6 +1,6 @@
 -- Paper 01, "Access halves" and "Invalidation", and the refusals that every command on an EF shares, in their order: "94 00 no EF;
 -- 94 08 structure; 98 10 invalidation; 98 04 access".
-use Rattle.std.specs.Prelude.{ℕ, ◌+◌, ◌/◌, ◌%◌, List, [], ◌∷◌, Bool, true, false, ◌&&◌, ◌||◌, not, eqb, leb, ltb}
+use Rattle.std.specs.Prelude.{ℕ, ◌/◌, ◌%◌, List, ◌∷◌, Bool, ◌&&◌, ◌||◌, not, eqb, ltb}
 use Rattle.card.specs.Layout.{code, file, disabled}
 use Rattle.card.specs.Answers.{Refusal, ◌says◌}
 use Rattle.card.specs.declared.Entry.{Entry}

@@ -2,11 +2,11 @@
 --
 -- A command sees the head of the image, which is all before the files' bytes, the bytes of the current file, and the session. What
 -- decides goes by the head; only READ, SEEK and INCREASE look at the bytes, after their right to.
-use Rattle.std.specs.Prelude.{ℕ, ◌+◌, ◌-◌, ◌*◌, ◌/◌, List, [], ◌∷◌, ◌++◌, Bool, true, false, length, drop, set, eqb, ltb}
+use Rattle.std.specs.Prelude.{ℕ, ◌+◌, ◌-◌, ◌*◌, ◌/◌, List, [], ◌∷◌, ◌++◌, true, false, length, drop, set, eqb, ltb}
 use Rattle.card.specs.Bytes.{byte, word, part, splice}
 use Rattle.card.specs.Layout.{index, code_at, file, head, contents, start, status_at, top_at}
 use Rattle.card.specs.Shelf.{is_image}
-use Rattle.card.specs.Sessions.{fits, dropped, reset}
+use Rattle.card.specs.Sessions.{fits, dropped}
 use Rattle.card.specs.Access.{rights, on_file}
 use Rattle.card.specs.Answers.{number, Reply, reply, response, refusal, Marked, Written, Coded, Effect, effect, first}
 use Rattle.card.specs.Select.{select, tell_status, get_response}

@@ -8,7 +8,6 @@ use Rattle.card.specs.declared.Code.{Code}
 use Rattle.card.specs.declared.Directory.{Directory}
 use Rattle.card.specs.declared.Entry.{Entry}
 use Rattle.card.specs.declared.Session.{Session}
-use Rattle.card.specs.declared.Current.{Current}
 use Rattle.card.specs.declared.Current.TheVariants.{Nothing, File}
 use Rattle.card.specs.declared.Pointer.{Pointer}
 use Rattle.card.specs.declared.Pointer.TheVariants.{Undefined, At}

@@ -1,15 +1,13 @@
 -- Laws of READ BINARY and UPDATE BINARY.
-use Prim.Native.Nat.{ℕ, ◌+◌, ◌-◌, ◌≤◌, ◌<◌}
-use mathlib.Core.Path.{◌≡◌, refl, sym, ap, ◌∙◌}
-use mathlib.Core.List.{List, [], ◌∷◌}
-use mathlib.Core.Bool.{Bool, true, false}
+use Prim.Native.Nat.{ℕ, ◌+◌, ◌≤◌, ◌<◌}
+use mathlib.Core.Path.{◌≡◌, refl, sym, ◌∙◌}
+use mathlib.Core.List.{List, []}
 use native.Mathlib.Omega.{arith}
-use lib.Dec.{eqb, ltb}
 use lib.ListN.{length}
 use borrow.Author.Tests.{lt-ltb, le-ltb, ltb-false}
 use Rattle.card.specs.Bytes.{part, splice}
 use Rattle.card.specs.Layout.{transparent}
-use Rattle.card.specs.Answers.{first, ◌says◌, refusal, reply, written}
+use Rattle.card.specs.Answers.{first, refusal, reply, written}
 use Rattle.card.specs.Access.{shared}
 use Rattle.card.specs.Binary.{binary, read_binary, update_binary}
 use Rattle.card.specs.Sessions.{dropped}

@@ -13,7 +13,7 @@ use Rattle.card.specs.Shelf.{all, records_rule, top_rule}
 use Rattle.card.specs.Sessions.{pointed}
 use Rattle.card.specs.declared.Entry.{Entry}
 use Rattle.card.specs.declared.Pointer.{Pointer}
-use Rattle.card.specs.declared.Pointer.TheVariants.{Undefined, At}
+use Rattle.card.specs.declared.Pointer.TheVariants.{At}
 use Rattle.commands_records.specs.Stands.{Recorded, Stands}
 use Rattle.parts.proofs.Comparing.{both}
 

@@ -12,14 +12,14 @@ use Rattle.card.specs.Bytes.{first_from, find, same, part}
 use Rattle.card.specs.Seek.{matches, forward, backward, after, before, sought, seek_record}
 use Rattle.card.specs.Access.{shared}
 use Rattle.card.specs.Answers.{Reply, first, ◌says◌, refusal, reply}
-use Rattle.card.specs.Layout.{transparent, linear, records}
+use Rattle.card.specs.Layout.{linear, records}
 use Rattle.card.specs.Sessions.{dropped, points, waits}
 use Rattle.card.specs.declared.Act.TheVariants.{Seek}
 use Rattle.card.specs.declared.Entry.{Entry}
 use Rattle.card.specs.declared.Rights.{Rights}
 use Rattle.card.specs.declared.Session.{Session}
 use Rattle.card.specs.declared.Pointer.{Pointer}
-use Rattle.card.specs.declared.Pointer.TheVariants.{Undefined, At}
+use Rattle.card.specs.declared.Pointer.TheVariants.{At}
 use Rattle.commands.specs.declared.answers.Reply.{Reply as Told}
 use Rattle.commands_seek.specs.Along.{along, Ranges}
 use Rattle.commands.specs.Gives.{brief, Says}

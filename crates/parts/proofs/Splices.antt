@@ -4,8 +4,8 @@ use mathlib.Core.Path.{◌≡◌, ◌∙◌}
 use mathlib.Core.List.{List, [], ◌++◌, append-nil}
 use native.Mathlib.Omega.{arith}
 use native.Mathlib.Nat.{add-sub_cancel_left}
-use lib.ListN.{length, take, drop, length-drop, drop_of_length-le}
-use lib.Seq.{take-length, length-take-le}
+use lib.ListN.{length, take, drop, drop_of_length-le}
+use lib.Seq.{take-length}
 use Rattle.card.specs.Bytes.{part, splice}
 use Rattle.card.specs.Answers.{laid}
 use Rattle.card.proofs.Parts.{length_part}

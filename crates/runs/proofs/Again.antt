@@ -1,10 +1,9 @@
 -- What was tested before a command is so after it.
 use Prim.Native.Nat.{ℕ}
-use mathlib.Core.Path.{◌≡◌, sym, subst}
+use mathlib.Core.Path.{sym, subst}
 use mathlib.Core.List.{List}
-use mathlib.Core.Bool.{true}
 use Rattle.acts.specs.Ready.{Ready}
-use Rattle.card.specs.Play.{Outcome, play}
+use Rattle.card.specs.Play.{play}
 use Rattle.card.specs.declared.Session.{Session}
 use Rattle.card.proofs.Stays.{stays_image}
 use Rattle.player.specs.Ends.{Ends}

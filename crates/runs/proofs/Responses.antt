@@ -1,6 +1,6 @@
 -- A response lies in the room that it was laid in.
 use Prim.Native.Nat.{ℕ, ◌≤◌}
-use mathlib.Core.Path.{◌≡◌, ap, ◌∙◌}
+use mathlib.Core.Path.{ap, ◌∙◌}
 use mathlib.Core.List.{List}
 use native.Mathlib.Omega.{arith}
 use lib.ListN.{length, drop, length-append}

@@ -1,6 +1,5 @@
 -- `access::allowed` meets its contract.
 use mathlib.Core.Path.{ap, ◌∙◌}
-use borrow.Author.Rules.{rules}
 use Rattle.card.specs.Access.{fulfilled}
 use Rattle.access.proofs.allowed.Goals as goal
 

@@ -1,5 +1,4 @@
 -- `access::barred` meets its contract.
-use borrow.Author.Rules.{rules}
 use Rattle.access.proofs.barred.Goals as goal
 
 pub returns-in-Read : goal.returns-in-Read

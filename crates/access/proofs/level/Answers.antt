@@ -1,5 +1,4 @@
 -- `access::level` meets its contract.
-use borrow.Author.Rules.{rules}
 use Rattle.access.proofs.level.Goals as goal
 
 pub returns-in-Read : goal.returns-in-Read

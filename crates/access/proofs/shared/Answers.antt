@@ -1,7 +1,6 @@
 -- `access::shared` meets its contract.
 use mathlib.Core.Path.{ap, sym, ◌∙◌}
 use mathlib.Core.Bool.{not}
-use borrow.Author.Rules.{rules}
 use Rattle.card.specs.Access.{shared}
 use Rattle.card.specs.Answers.{first}
 use Rattle.access.proofs.shared.Goals as goal
@@ -17,15 +16,15 @@ returns-then-barred c = simp (c.if-not-suits.false-raw, sym c.barred.ensures ∙
 pub returns-then-not-allowed : goal.returns-then-not-allowed
 unfolding first shared
 returns-then-not-allowed c = simp (
-      c.if-not-suits.false-raw,
-      sym c.barred.ensures ∙ c.if-barred.false,
-      ap not (sym c.allowed.ensures) ∙ c.if-not-allowed.true-raw,
-    )
+  c.if-not-suits.false-raw,
+  sym c.barred.ensures ∙ c.if-barred.false,
+  ap not (sym c.allowed.ensures) ∙ c.if-not-allowed.true-raw,
+)
 
 pub returns : goal.returns
 unfolding first shared
 returns c = simp (
-      c.if-not-suits.false-raw,
-      sym c.barred.ensures ∙ c.if-barred.false,
-      ap not (sym c.allowed.ensures) ∙ c.if-not-allowed.false-raw,
-    )
+  c.if-not-suits.false-raw,
+  sym c.barred.ensures ∙ c.if-barred.false,
+  ap not (sym c.allowed.ensures) ∙ c.if-not-allowed.false-raw,
+)

@@ -3,7 +3,6 @@ use Prim.Native.Nat.{◌+◌, ◌*◌}
 use mathlib.Core.List.{[]}
 use mathlib.Core.Path.{ap, ◌∙◌}
 use native.Mathlib.Omega.{arith}
-use borrow.Author.Rules.{rules}
 use Rattle.card.specs.Answers.{reply}
 use Rattle.card.specs.Play.{act}
 use Rattle.card.specs.Select.{get_response}

@@ -2,7 +2,6 @@
 use native.Mathlib.Omega.{arith}
 use Rattle.card.specs.Codes.{change}
 use Rattle.acts_codes.proofs.Entering.{inside, coded}
-use borrow.Author.Rules.{rules}
 use Rattle.acts_codes.proofs.change.Goals as goal
 
 pub slice_bounds-change-end : goal.slice_bounds-change-end

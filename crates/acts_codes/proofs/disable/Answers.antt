@@ -2,7 +2,6 @@
 use native.Mathlib.Omega.{arith}
 use Rattle.card.specs.Codes.{disable}
 use Rattle.acts_codes.proofs.Entering.{inside, coded}
-use borrow.Author.Rules.{rules}
 use Rattle.acts_codes.proofs.disable.Goals as goal
 
 pub slice_bounds-disable-end : goal.slice_bounds-disable-end

@@ -2,7 +2,6 @@
 use native.Mathlib.Omega.{arith}
 use Rattle.card.specs.Codes.{enable}
 use Rattle.acts_codes.proofs.Entering.{inside, coded}
-use borrow.Author.Rules.{rules}
 use Rattle.acts_codes.proofs.enable.Goals as goal
 
 pub slice_bounds-enable-end : goal.slice_bounds-enable-end

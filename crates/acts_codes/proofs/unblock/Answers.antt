@@ -2,7 +2,6 @@
 use native.Mathlib.Omega.{arith}
 use Rattle.card.specs.Codes.{unblock}
 use Rattle.acts_codes.proofs.Entering.{inside, coded}
-use borrow.Author.Rules.{rules}
 use Rattle.acts_codes.proofs.unblock.Goals as goal
 
 pub slice_bounds-unblock-end : goal.slice_bounds-unblock-end

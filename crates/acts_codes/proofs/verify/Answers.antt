@@ -2,7 +2,6 @@
 use native.Mathlib.Omega.{arith}
 use Rattle.card.specs.Codes.{verify}
 use Rattle.acts_codes.proofs.Entering.{inside, coded}
-use borrow.Author.Rules.{rules}
 use Rattle.acts_codes.proofs.verify.Goals as goal
 
 pub slice_bounds-verify-end : goal.slice_bounds-verify-end

@@ -1,5 +1,4 @@
 -- `acts_marks::rehabilitate` meets its contract.
-use borrow.Author.Rules.{rules}
 use Rattle.card.specs.Marks.{rehabilitate}
 use Rattle.card.specs.Play.{marks}
 use Rattle.acts_stand.proofs.Carried.{none}

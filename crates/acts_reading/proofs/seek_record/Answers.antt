@@ -1,5 +1,4 @@
 -- `acts_reading::seek_record` meets its contract.
-use borrow.Author.Rules.{rules}
 use Rattle.card.specs.Seek.{seek_record}
 use Rattle.card.specs.Play.{reads}
 use Rattle.acts_stand.proofs.Carried.{none, granted}

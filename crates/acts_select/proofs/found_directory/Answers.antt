@@ -1,5 +1,4 @@
 -- `acts_select::found_directory` meets its contract.
-use borrow.Author.Rules.{rules}
 use Rattle.acts_select.specs.Finds.{found_directory}
 use Rattle.acts_select.proofs.found_directory.Goals as goal
 

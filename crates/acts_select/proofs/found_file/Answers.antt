@@ -1,6 +1,5 @@
 -- `acts_select::found_file` meets its contract.
 use native.Mathlib.Omega.{arith}
-use borrow.Author.Rules.{rules}
 use Rattle.acts_select.proofs.Finding.{file_found}
 use Rattle.acts_select.proofs.found_file.Goals as goal
 

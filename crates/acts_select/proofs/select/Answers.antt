@@ -1,8 +1,6 @@
 -- `acts_select::select` meets its contract: the head that was lent is the image's, and each way out is one law.
-use mathlib.Core.Logic.{inl, inr}
 use mathlib.Core.Path.{◌∙◌}
 use native.Mathlib.Omega.{arith}
-use borrow.Author.Rules.{rules}
 use Rattle.shelf.proofs.Heading.{head_length}
 use Rattle.acts_select.proofs.Finding.{directory_readable, file_readable, heading, here, to_directory, to_file, to_nothing}
 use Rattle.acts_select.proofs.select.Goals as goal

@@ -2,7 +2,6 @@
 use native.Mathlib.Omega.{arith}
 use Rattle.shelf.proofs.Heading.{head_length}
 use Rattle.acts_select.proofs.Finding.{heading, here, status}
-use borrow.Author.Rules.{rules}
 use Rattle.acts_select.proofs.status.Goals as goal
 
 pub slice_bounds-directory_response-end : goal.slice_bounds-directory_response-end

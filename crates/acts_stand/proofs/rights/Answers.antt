@@ -1,5 +1,4 @@
 -- `acts_stand::rights` meets its contract.
-use borrow.Author.Rules.{rules}
 use Rattle.card.specs.Access.{rights}
 use Rattle.card.specs.Layout.{code}
 use Rattle.acts_stand.proofs.rights.Goals as goal

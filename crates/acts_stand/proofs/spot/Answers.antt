@@ -1,6 +1,5 @@
 -- `acts_stand::spot` meets its contract.
 use native.Mathlib.Omega.{arith}
-use borrow.Author.Rules.{rules}
 use Rattle.card.proofs.Images.{image}
 use Rattle.card.proofs.Places.{code_inside}
 use Rattle.acts_stand.proofs.Standing.{few, entry_inside, spotted}

@@ -1,6 +1,5 @@
 -- `acts_stand::stand` meets its contract.
 use native.Mathlib.Omega.{arith}
-use borrow.Author.Rules.{rules}
 use Rattle.acts_stand.proofs.Standing.{few, start_inside, entry_inside, here}
 use Rattle.acts_stand.proofs.stand.Goals as goal
 

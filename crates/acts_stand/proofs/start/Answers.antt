@@ -1,9 +1,6 @@
 -- `acts_stand::start` meets its contract. The invariant: the sum is that of the first g sizes.
-use Prim.Native.Nat.{◌-◌, ◌*◌, ◌≤◌}
-use mathlib.Core.Path.{◌≡◌, ◌∙◌}
+use mathlib.Core.Path.{◌∙◌}
 use native.Mathlib.Omega.{arith}
-use borrow.Author.Rules.{rules}
-use Rattle.card.specs.Layout.{sizes}
 use Rattle.acts_stand.proofs.Standing.{no_sizes, next_size, all_sizes}
 use Rattle.acts_stand.proofs.start.Goals as goal
 

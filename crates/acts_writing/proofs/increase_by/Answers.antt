@@ -1,5 +1,4 @@
 -- `acts_writing::increase_by` meets its contract.
-use borrow.Author.Rules.{rules}
 use Rattle.card.specs.Increase.{increase_by}
 use Rattle.card.specs.Play.{writes}
 use Rattle.acts_stand.proofs.Carried.{none, granted}

@@ -1,5 +1,4 @@
 -- `acts_writing::update_binary` meets its contract.
-use borrow.Author.Rules.{rules}
 use Rattle.card.specs.Binary.{update_binary}
 use Rattle.card.specs.Play.{writes}
 use Rattle.acts_stand.proofs.Carried.{none, full}

@@ -1,5 +1,4 @@
 -- `acts_writing::update_record` meets its contract.
-use borrow.Author.Rules.{rules}
 use Rattle.card.specs.Records.{update_record}
 use Rattle.card.specs.Play.{writes}
 use Rattle.acts_stand.proofs.Carried.{none, granted}

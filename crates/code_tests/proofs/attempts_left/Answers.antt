@@ -1,5 +1,4 @@
 -- `code_tests::attempts_left` meets its contract.
-use borrow.Author.Rules.{rules}
 use Rattle.code_tests.specs.Keys.{keyed}
 use Rattle.code_tests.proofs.attempts_left.Goals as goal
 

@@ -1,6 +1,5 @@
 -- `code_tests::eight` meets its contract.
 use Rattle.code_tests.proofs.Bytewise.{read}
-use borrow.Author.Rules.{rules}
 use Rattle.code_tests.proofs.eight.Goals as goal
 
 pub returns : goal.returns

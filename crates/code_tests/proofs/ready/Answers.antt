@@ -1,5 +1,4 @@
 -- `code_tests::ready` meets its contract.
-use borrow.Author.Rules.{rules}
 use Rattle.code_tests.specs.Keys.{keyed}
 use Rattle.code_tests.proofs.ready.Goals as goal
 

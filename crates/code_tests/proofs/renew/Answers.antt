@@ -2,7 +2,6 @@
 use native.Mathlib.Omega.{arith}
 use lib.ListN.{length-set}
 use Rattle.code_tests.proofs.Bytewise.{anew}
-use borrow.Author.Rules.{rules}
 use Rattle.code_tests.proofs.renew.Goals as goal
 
 pub bounds-e-4 : goal.bounds-e-4

@@ -1,6 +1,5 @@
 -- `code_tests::same_code` meets its contract.
 use Rattle.code_tests.proofs.Bytewise.{same_code}
-use borrow.Author.Rules.{rules}
 use Rattle.code_tests.proofs.same_code.Goals as goal
 
 pub returns : goal.returns

@@ -9,7 +9,6 @@ use Rattle.card.specs.Sessions.{presents}
 use Rattle.commands.specs.Gives.{brief}
 use Rattle.code_tests.specs.Keys.{keyed}
 use Rattle.code_tests.proofs.Trials.{untested, missed, right, some, compared}
-use borrow.Author.Rules.{rules}
 use Rattle.code_tests.proofs.tested.Goals as goal
 
 pub returns-then-word-ne0 : goal.returns-then-word-ne0

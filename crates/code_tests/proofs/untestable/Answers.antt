@@ -1,7 +1,6 @@
 -- `code_tests::untestable` meets its contract.
 use Rattle.code_tests.specs.Keys.{keyed}
 use Rattle.code_tests.proofs.Trials.{unready, blocked, contradicted, testable}
-use borrow.Author.Rules.{rules}
 use Rattle.code_tests.proofs.untestable.Goals as goal
 
 pub returns-then-not-ready : goal.returns-then-not-ready

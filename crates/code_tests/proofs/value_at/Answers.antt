@@ -1,6 +1,5 @@
 -- `code_tests::value_at` meets its contract.
 use native.Mathlib.Omega.{arith}
-use borrow.Author.Rules.{rules}
 use Rattle.code_tests.specs.Keys.{keyed}
 use Rattle.code_tests.proofs.value_at.Goals as goal
 

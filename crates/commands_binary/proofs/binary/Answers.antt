@@ -1,6 +1,5 @@
 -- `commands_binary::binary` meets its contract.
 use native.Mathlib.Omega.{arith}
-use borrow.Author.Rules.{rules}
 use Rattle.commands_binary.proofs.Binaries.{denied, beyond, inside}
 use Rattle.commands_binary.proofs.binary.Goals as goal
 

@@ -2,7 +2,6 @@
 use Prim.Native.Nat.{◌+◌, ◌≤◌}
 use native.Mathlib.Omega.{arith}
 use lib.ListN.{length}
-use borrow.Author.Rules.{rules}
 use Rattle.card.specs.declared.Act.TheVariants.{Read}
 use Rattle.commands_binary.proofs.Binaries.{not_read, read, reaches}
 use Rattle.commands.proofs.Replies.{counted}

@@ -4,7 +4,6 @@ use mathlib.Core.List.{[]}
 use mathlib.Core.Path.{ap, ◌∙◌}
 use native.Mathlib.Omega.{arith}
 use lib.ListN.{length}
-use borrow.Author.Rules.{rules}
 use Rattle.card.specs.declared.Act.TheVariants.{Update}
 use Rattle.card.specs.declared.Session.{Session}
 use Rattle.card.specs.Answers.{reply}

@@ -11,7 +11,6 @@ use Rattle.card.specs.declared.Session.{Session}
 use Rattle.commands.specs.Gives.{brief}
 use Rattle.commands_records.specs.Stands.{Recorded}
 use Rattle.commands_increase.proofs.Increasing.{read_whole, told_whole, told_all, countable, summed, not_increased, too_much, increased}
-use borrow.Author.Rules.{rules}
 use Rattle.commands_increase.proofs.increase_by.Goals as goal
 
 pub returns-then-word-ne0 : goal.returns-then-word-ne0

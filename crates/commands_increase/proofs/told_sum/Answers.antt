@@ -1,6 +1,5 @@
 -- `commands_increase::told_sum` meets its contract.
 use Rattle.commands_increase.proofs.Increasing.{sum_told}
-use borrow.Author.Rules.{rules}
 use Rattle.commands_increase.proofs.told_sum.Goals as goal
 
 pub returns : goal.returns

@@ -1,7 +1,6 @@
 -- `commands_marks::invalidate` meets its contract.
 use mathlib.Core.List.{[]}
 use mathlib.Core.Path.{ap, ◌∙◌}
-use borrow.Author.Rules.{rules}
 use Rattle.card.specs.declared.Session.{Session}
 use Rattle.card.specs.Answers.{reply}
 use Rattle.commands.specs.Gives.{brief}

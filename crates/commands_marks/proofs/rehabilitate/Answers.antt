@@ -2,7 +2,6 @@
 use mathlib.Core.List.{[]}
 use mathlib.Core.Path.{ap, ◌∙◌}
 use native.Mathlib.Omega.{arith}
-use borrow.Author.Rules.{rules}
 use Rattle.card.specs.declared.Session.{Session}
 use Rattle.card.specs.Answers.{reply}
 use Rattle.commands.specs.Gives.{brief}

@@ -1,6 +1,5 @@
 -- `commands_records::absolute` meets its contract.
 use borrow.Author.Tests.{le-leb, lt-leb, ne_eqb}
-use borrow.Author.Rules.{rules}
 use Rattle.card.specs.Records.{absolute}
 use Rattle.commands_records.proofs.absolute.Goals as goal
 

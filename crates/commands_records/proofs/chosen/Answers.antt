@@ -1,7 +1,6 @@
 -- `commands_records::chosen` meets its contract.
 use borrow.Author.Tests.{eq-eqb, ne_eqb}
-use borrow.Author.Rules.{rules}
-use Rattle.card.specs.Records.{next, previous, absolute, chosen}
+use Rattle.card.specs.Records.{chosen}
 use Rattle.commands_records.proofs.chosen.Goals as goal
 
 pub returns-then-mode-eq2 : goal.returns-then-mode-eq2

@@ -1,6 +1,5 @@
 -- `commands_records::moved` meets its contract.
 use borrow.Author.Tests.{ne_eqb}
-use borrow.Author.Rules.{rules}
 use Rattle.card.specs.Records.{moved}
 use Rattle.commands_records.proofs.moved.Goals as goal
 

@@ -1,5 +1,4 @@
 -- `commands_records::next` meets its contract.
-use borrow.Author.Rules.{rules}
 use Rattle.commands_records.proofs.Reaching.{next_inside, next_round, next_none}
 use Rattle.commands_records.proofs.next.Goals as goal
 

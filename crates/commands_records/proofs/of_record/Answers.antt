@@ -1,7 +1,6 @@
 -- `commands_records::of_record` meets its contract.
 use Prim.Native.Nat.{ℕ, ◌+◌}
 use mathlib.Core.Path.{ap, sym, ◌∙◌}
-use borrow.Author.Rules.{rules}
 use Rattle.commands_records.proofs.Reaching.{denied, misfit, absent, present}
 use Rattle.commands_records.proofs.of_record.Goals as goal
 

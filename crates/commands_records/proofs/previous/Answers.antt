@@ -1,5 +1,4 @@
 -- `commands_records::previous` meets its contract.
-use borrow.Author.Rules.{rules}
 use Rattle.commands_records.proofs.Reaching.{previous_inside, previous_round, previous_none}
 use Rattle.commands_records.proofs.previous.Goals as goal
 

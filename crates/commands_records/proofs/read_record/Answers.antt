@@ -4,7 +4,6 @@ use mathlib.Core.Bool.{not}
 use mathlib.Core.Path.{◌≡◌, ap, ◌∙◌}
 use native.Mathlib.Omega.{arith}
 use lib.ListN.{length}
-use borrow.Author.Rules.{rules}
 use Rattle.card.specs.declared.Act.TheVariants.{Read}
 use Rattle.card.specs.Sessions.{dropped}
 use Rattle.card.specs.Records.{moved}

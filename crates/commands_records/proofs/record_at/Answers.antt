@@ -1,7 +1,6 @@
 -- `commands_records::record_at` meets its contract.
 use native.Mathlib.Omega.{arith}
 use Rattle.commands_records.proofs.Reaching.{located, placed}
-use borrow.Author.Rules.{rules}
 use Rattle.commands_records.proofs.record_at.Goals as goal
 
 pub overflow_mul-result : goal.overflow_mul-result

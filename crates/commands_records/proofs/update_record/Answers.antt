@@ -5,11 +5,10 @@ use mathlib.Core.List.{[]}
 use mathlib.Core.Path.{◌≡◌, ap, ◌∙◌}
 use native.Mathlib.Omega.{arith}
 use lib.ListN.{length}
-use borrow.Author.Rules.{rules}
 use Rattle.card.specs.declared.Act.TheVariants.{Update}
 use Rattle.card.specs.declared.Pointer.TheVariants.{At}
 use Rattle.card.specs.declared.Session.{Session}
-use Rattle.card.specs.Sessions.{dropped, points}
+use Rattle.card.specs.Sessions.{points}
 use Rattle.card.specs.Records.{of_record, updatable, moved}
 use Rattle.card.specs.Answers.{first, reply}
 use Rattle.commands.specs.Gives.{brief}

@@ -1,7 +1,5 @@
 -- `commands_seek::backward` meets its contract.
-use Prim.Native.Nat.{◌-◌}
 use native.Mathlib.Omega.{arith}
-use borrow.Author.Rules.{rules}
 use Rattle.commands_seek.proofs.Seeking.{downwards, backward_hit, backward_miss}
 use Rattle.commands_seek.proofs.backward.Goals as goal
 

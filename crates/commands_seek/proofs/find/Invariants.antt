@@ -1,15 +1,10 @@
 -- `commands_seek::find` meets its contract.
-use Prim.Native.Nat.{ℕ, ◌-◌, ◌≤◌}
-use mathlib.Core.Bool.{true, false}
-use mathlib.Core.Path.{◌≡◌, refl, sym, ap, ◌∙◌}
-use native.Mathlib.Nat.{sub-zero}
-use native.Mathlib.Omega.{arith}
+use Prim.Native.Nat.{◌-◌, ◌≤◌}
+use mathlib.Core.Path.{◌≡◌}
 use lib.ListN.{length, drop}
 use Rattle.card.specs.Seek.{matches}
 use Rattle.card.specs.Bytes.{part, same, first_from, find}
 use Rattle.commands_seek.specs.Along.{along}
-use Rattle.parts.proofs.Comparing.{same_on}
-use Rattle.commands_seek.proofs.Seeking.{search_on, search_hit, search_end, lies, fitting, passed, met}
 use Rattle.commands_seek.proofs.find.Given as goal
 
 abbrev pub invariant-loop-j : goal.invariant-loop-j

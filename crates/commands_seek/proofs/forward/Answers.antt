@@ -1,7 +1,5 @@
 -- `commands_seek::forward` meets its contract.
-use Prim.Native.Nat.{◌-◌}
 use native.Mathlib.Omega.{arith}
-use borrow.Author.Rules.{rules}
 use Rattle.commands_seek.proofs.Seeking.{upwards, forward_none, forward_hit, forward_miss}
 use Rattle.commands_seek.proofs.forward.Goals as goal
 

@@ -5,7 +5,6 @@ use mathlib.Core.Path.{◌≡◌, sym, ap, ◌∙◌}
 use native.Mathlib.Omega.{arith}
 use lib.ListN.{length, take}
 use lib.Seq.{length-take-le}
-use borrow.Author.Rules.{rules}
 use Rattle.card.specs.declared.Session.{Session}
 use Rattle.card.specs.Sessions.{waits}
 use Rattle.card.specs.Seek.{sought}

@@ -3,7 +3,6 @@ use Prim.Native.Nat.{◌-◌, ◌≤◌}
 use mathlib.Core.Path.{◌≡◌, sym, ap, ◌∙◌}
 use native.Mathlib.Nat.{le_trans, mul-le-mul_right}
 use native.Mathlib.Omega.{arith}
-use borrow.Author.Rules.{rules}
 use Rattle.card.specs.declared.Pointer.{Pointer}
 use Rattle.card.specs.Seek.{forward, backward, after, before}
 use Rattle.commands_seek.proofs.Seeking.{sought_first, sought_last, sought_after, sought_before}

@@ -1,6 +1,5 @@
 -- `entries::code` meets its contract: each field is the byte at its place.
 use mathlib.Core.Path.{refl}
-use borrow.Author.Rules.{rules}
 use Rattle.card.specs.Layout.{code_entry}
 use Rattle.entries.proofs.code.Goals as goal
 

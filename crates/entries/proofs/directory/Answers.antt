@@ -1,6 +1,5 @@
 -- `entries::directory` meets its contract: each field is the byte or word at its place.
 use Rattle.entries.proofs.Whole.{directory_of}
-use borrow.Author.Rules.{rules}
 use Rattle.entries.proofs.directory.Goals as goal
 
 pub returns : goal.returns

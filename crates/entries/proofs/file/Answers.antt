@@ -1,6 +1,5 @@
 -- `entries::file` meets its contract: each field is the byte or word at its place.
 use Rattle.entries.proofs.Whole.{file_of}
-use borrow.Author.Rules.{rules}
 use Rattle.entries.proofs.file.Goals as goal
 
 pub returns : goal.returns

@@ -1,6 +1,5 @@
 -- `entries::records` meets its contract: 0 goes into nothing.
 use native.Mathlib.Nat.{div-zero}
-use borrow.Author.Rules.{rules}
 use Rattle.entries.proofs.records.Goals as goal
 
 pub returns-then-e-eq0 : goal.returns-then-e-eq0

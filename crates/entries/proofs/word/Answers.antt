@@ -1,7 +1,6 @@
 -- `entries::word` meets its contract: a word is made of two bytes.
 use mathlib.Core.Path.{refl}
 use Rattle.entries.proofs.Whole.{word_of}
-use borrow.Author.Rules.{rules}
 use Rattle.entries.proofs.word.Goals as goal
 
 pub returns : goal.returns

@@ -1,5 +1,4 @@
 -- `forms::count_refused` meets its contract.
-use borrow.Author.Rules.{rules}
 use Rattle.forms.proofs.Shapes.{counted}
 use Rattle.forms.proofs.count_refused.Goals as goal
 

@@ -1,5 +1,4 @@
 -- `forms::formed` meets its contract.
-use borrow.Author.Rules.{rules}
 use Rattle.forms.proofs.Shapes.{not_known, not_paired, by_count}
 use Rattle.forms.proofs.formed.Goals as goal
 

@@ -1,5 +1,4 @@
 -- `forms::pair_fits` meets its contract.
-use borrow.Author.Rules.{rules}
 use Rattle.forms.proofs.pair_fits.Goals as goal
 
 pub returns-in-Both : goal.returns-in-Both

@@ -1,5 +1,4 @@
 -- `forms::sent` meets its contract.
-use borrow.Author.Rules.{rules}
 use Rattle.forms.proofs.Shapes.{sends, sends_none}
 use Rattle.forms.proofs.sent.Goals as goal
 

@@ -4,11 +4,10 @@ use mathlib.Core.Path.{sym, ◌∙◌}
 use native.Mathlib.Nat.{add-sub_cancel_left}
 use native.Mathlib.Omega.{arith}
 use lib.ListN.{length}
-use borrow.Author.Rules.{rules}
-use Rattle.card.specs.Bytes.{word, part}
+use Rattle.card.specs.Bytes.{part}
 use Rattle.lists.proofs.Laying.{short, lent}
 use Rattle.lists.proofs.Onward.{onward}
-use Rattle.lists.proofs.Sofar.{Sofar, start, goes, tests, stopped, finished}
+use Rattle.lists.proofs.Sofar.{start, goes, tests, stopped, finished}
 use Rattle.lists.proofs.run.Goals as goal
 
 pub loop-ran-init : goal.loop-ran-init

@@ -1,5 +1,4 @@
 -- `lists::whole` meets its contract: by the two bytes of the count, where they are there.
-use borrow.Author.Rules.{rules}
 use Rattle.lists.proofs.Places.{cut, counted}
 use Rattle.lists.proofs.whole.Goals as goal
 

@@ -1,7 +1,5 @@
 -- `player::play` meets its contract: nothing is in the way, or the examination's answer is play's.
 use lib.ListN.{length}
-use borrow.Author.Rules.{rules}
-use Rattle.shelf_check.proofs.Examining.{other}
 use Rattle.player.proofs.Endings.{declines}
 use Rattle.player.proofs.Ways.{ends, stopped, ready}
 use Rattle.player.proofs.play.Goals as goal

@@ -1,6 +1,5 @@
 -- `player::play_ready` meets its contract.
 use lib.ListN.{length}
-use borrow.Author.Rules.{rules}
 use Rattle.card.specs.declared.Answer.TheVariants.{RoomTooSmall, WrongLength}
 use Rattle.player.proofs.Endings.{declines}
 use Rattle.player.proofs.Ways.{ends, no_room, too_short, onward}

@@ -1,10 +1,9 @@
 -- `runs::number` meets its contract: a line a case.
-use Prim.Native.Nat.{ℕ, ◌<◌}
+use Prim.Native.Nat.{◌<◌}
 use native.Mathlib.Omega.{arith}
 use mathlib.Core.Path.{◌≡◌, sym, ap}
 use Rattle.card.specs.Answers.{number}
 use Rattle.card.specs.declared.Answer.{Answer}
-use borrow.Author.Rules.{rules}
 use Rattle.runs.proofs.number.Goals as goal
 
 -- what is written in an arm is written of the answer that was matched

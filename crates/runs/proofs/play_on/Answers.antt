@@ -2,7 +2,6 @@
 use mathlib.Core.Bool.{true≢false}
 use mathlib.Core.Path.{sym, ◌∙◌}
 use lib.ListN.{length}
-use borrow.Author.Rules.{rules}
 use Rattle.runs.proofs.Again.{again}
 use Rattle.runs.proofs.play_on.Goals as goal
 

@@ -1,6 +1,4 @@
 -- `runs::tested` meets its contract: by the answer of the examination.
-use borrow.Author.Rules.{rules}
-use Rattle.shelf_check.proofs.Examining.{other}
 use Rattle.player.proofs.Ways.{ready}
 use Rattle.runs.proofs.Tests.{passed, stopped}
 use Rattle.runs.proofs.tested.Goals as goal

@@ -1,7 +1,6 @@
 -- `commands::answers::refusal` meets its contract.
 use mathlib.Core.Path.{ap, ◌∙◌}
 use mathlib.Core.List.{[]}
-use borrow.Author.Rules.{rules}
 use Rattle.card.specs.Answers.{reply}
 use Rattle.card.specs.declared.Session.{Session}
 use Rattle.commands.specs.Gives.{brief}

@@ -2,7 +2,6 @@
 use mathlib.Core.Path.{refl, sym}
 use Rattle.code_tests.specs.Keys.{keyed}
 use Rattle.commands_codes.proofs.Renewing.{half, rest, halves, changes}
-use borrow.Author.Rules.{rules}
 use Rattle.commands_codes.proofs.codes.change.Goals as goal
 
 pub slice_bounds-old-end : goal.slice_bounds-old-end

@@ -2,7 +2,6 @@
 use mathlib.Core.Path.{refl}
 use Rattle.code_tests.specs.Keys.{keyed}
 use Rattle.commands_codes.proofs.Renewing.{disables}
-use borrow.Author.Rules.{rules}
 use Rattle.commands_codes.proofs.codes.disable.Goals as goal
 
 pub returns : goal.returns

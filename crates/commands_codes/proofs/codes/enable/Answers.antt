@@ -3,7 +3,6 @@ use mathlib.Core.Path.{refl, ap}
 use mathlib.Core.Bool.{not}
 use Rattle.code_tests.specs.Keys.{keyed}
 use Rattle.commands_codes.proofs.Renewing.{enables}
-use borrow.Author.Rules.{rules}
 use Rattle.commands_codes.proofs.codes.enable.Goals as goal
 
 pub returns : goal.returns

@@ -3,7 +3,6 @@ use mathlib.Core.Path.{refl, sym}
 use mathlib.Core.Bool.{false}
 use Rattle.code_tests.specs.Keys.{keyed}
 use Rattle.commands_codes.proofs.Renewing.{half, rest, halves, unblocks}
-use borrow.Author.Rules.{rules}
 use Rattle.commands_codes.proofs.codes.unblock.Goals as goal
 
 pub slice_bounds-old-end : goal.slice_bounds-old-end

@@ -1,7 +1,6 @@
 -- `commands_codes::codes::verify` meets its contract.
 use Rattle.code_tests.specs.Keys.{keyed}
 use Rattle.commands_codes.proofs.Renewing.{verifies}
-use borrow.Author.Rules.{rules}
 use Rattle.commands_codes.proofs.codes.verify.Goals as goal
 
 pub returns : goal.returns

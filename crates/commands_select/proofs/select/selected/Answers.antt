@@ -2,7 +2,6 @@
 use Prim.Native.Nat.{◌+◌}
 use mathlib.Core.List.{[]}
 use mathlib.Core.Path.{ap, ◌∙◌}
-use borrow.Author.Rules.{rules}
 use Rattle.card.specs.Answers.{reply}
 use Rattle.card.specs.Sessions.{waits}
 use Rattle.card.specs.declared.Session.{Session}

@@ -3,7 +3,6 @@ use mathlib.Core.Path.{sym, subst}
 use mathlib.Core.List.{List}
 use native.Mathlib.Omega.{arith}
 use lib.Seq.{length-take-le}
-use borrow.Author.Rules.{rules}
 use Rattle.card.specs.Answers.{Effect}
 use Rattle.card.specs.Layout.{head}
 use Rattle.card.specs.Play.{done, opened}

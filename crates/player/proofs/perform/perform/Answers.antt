@@ -1,5 +1,4 @@
 -- `player::perform::perform` meets its contract.
-use borrow.Author.Rules.{rules}
 use Rattle.player.proofs.Ways.{ends, by_name}
 use Rattle.player.proofs.perform.perform.Goals as goal
 

@@ -2,7 +2,6 @@
 use mathlib.Core.Path.{sym, ◌∙◌}
 use native.Mathlib.Omega.{arith}
 use lib.ListN.{length-drop}
-use borrow.Author.Rules.{rules}
 use Rattle.card.specs.Sessions.{dropped}
 use Rattle.card.specs.declared.Answer.TheVariants.{WrongLength}
 use Rattle.player.proofs.Endings.{says, room_for_word, declines}

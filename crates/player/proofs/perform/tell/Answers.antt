@@ -1,7 +1,6 @@
 -- `player::perform::tell` meets its contract.
 use native.Mathlib.Omega.{arith}
 use lib.ListN.{length-set}
-use borrow.Author.Rules.{rules}
 use Rattle.player.proofs.perform.tell.Goals as goal
 
 pub bounds-room-count-2 : goal.bounds-room-count-2

@@ -1,5 +1,4 @@
 -- `shelf::read::byte_at` meets its contract: past the end the byte is 0.
-use borrow.Author.Rules.{rules}
 use Rattle.shelf.proofs.Past.{byte_past}
 use Rattle.shelf.proofs.read.byte_at.Goals as goal
 

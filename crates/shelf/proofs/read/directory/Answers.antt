@@ -3,7 +3,6 @@ use Prim.Native.Nat.{◌+◌, ◌*◌}
 use mathlib.Core.Path.{ap, ◌∙◌}
 use native.Mathlib.Omega.{arith}
 use Rattle.shelf.proofs.Heading.{directory_inside}
-use borrow.Author.Rules.{rules}
 use Rattle.card.specs.Layout.{directory_entry, directory}
 use Rattle.card.specs.declared.Index.{Index}
 use Rattle.shelf.proofs.read.directory.Goals as goal

@@ -4,7 +4,6 @@ use mathlib.Core.Path.{ap}
 use Rattle.card.specs.Bytes.{byte}
 use Rattle.card.specs.Layout.{file_entry, file}
 use Rattle.card.specs.declared.Index.{Index}
-use borrow.Author.Rules.{rules}
 use Rattle.shelf.proofs.read.file_home.Goals as goal
 
 pub returns : goal.returns

@@ -4,7 +4,6 @@ use mathlib.Core.Path.{ap, ◌∙◌}
 use Rattle.card.specs.Bytes.{word}
 use Rattle.card.specs.Layout.{file_entry, file}
 use Rattle.card.specs.declared.Index.{Index}
-use borrow.Author.Rules.{rules}
 use Rattle.shelf.proofs.read.file_identifier.Goals as goal
 
 pub returns : goal.returns

@@ -2,7 +2,6 @@
 use mathlib.Core.Path.{refl}
 use native.Mathlib.Omega.{arith}
 use Rattle.shelf.proofs.Heading.{counts_inside, image_indexed}
-use borrow.Author.Rules.{rules}
 use Rattle.shelf.proofs.read.image_index.Goals as goal
 
 pub word-d-requires : goal.word-d-requires

@@ -1,6 +1,5 @@
 -- `shelf::read::index` meets its contract: each count is the word that the definition reads, and so small that no place wraps.
 use native.Mathlib.Omega.{arith}
-use borrow.Author.Rules.{rules}
 use Rattle.card.specs.Layout.{index}
 use Rattle.shelf.proofs.read.index.Goals as goal
 

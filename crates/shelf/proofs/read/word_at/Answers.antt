@@ -1,7 +1,6 @@
 -- `shelf::read::word_at` meets its contract: past the end each byte is 0.
 use native.Mathlib.Omega.{arith}
 use Rattle.shelf.proofs.Past.{word_past}
-use borrow.Author.Rules.{rules}
 use Rattle.shelf.proofs.read.word_at.Goals as goal
 
 pub returns : goal.returns
