@@ -11,6 +11,7 @@ ghost use Rattle.std.specs.Prelude.{◌≡◌, ◌≤◌, true, length};
 ghost use Rattle.acts.specs.Ready.{Ready};
 
 use card::Session;
+use std::io::{Read, Write};
 use streams::{input, short_input};
 
 // The sum so far and the session.
@@ -67,56 +68,71 @@ fn play_laps(once: bool, laps: usize, image: &mut [u8], list: &[u8]) -> u32 {
 }
 
 // The line of both sums.
-fn tell(answers: u32, image: u32) {
+fn tell<W: Write>(output: &mut W, answers: u32, image: u32) {
     let mut text = [0u8; 64];
     let n = sums::spell(&mut text, answers, image);
-    streams::write(&text[..n]);
+    streams::write(output, &text[..n]);
 }
 
 // Reads the list into its space and plays the laps.
-fn play_in(mode: u8, laps: usize, image: &mut [u8], space: &mut [u8]) {
-    let n = input::read_count();
+fn play_in<R: Read, W: Write>(
+    input: &mut R,
+    output: &mut W,
+    mode: u8,
+    laps: usize,
+    image: &mut [u8],
+    space: &mut [u8],
+) {
+    let n = input::read_count(input);
     if !n.came {
-        short_input();
+        short_input(output);
         return;
     }
-    let read = list::read_all(space, n.value);
+    let read = list::read_all(input, space, n.value);
     if !read.came {
-        short_input();
+        short_input(output);
         return;
     }
     let end = read.end;
     let answers = play_laps(mode != 0, laps, image, &space[..end]);
-    tell(answers, sums::of_image(image));
+    tell(output, answers, sums::of_image(image));
 }
 
 // Reads the image and goes on to the list.
-fn play_image(mode: u8, laps: usize, space: &mut [u8])
+fn play_image<R: Read, W: Write>(
+    input: &mut R,
+    output: &mut W,
+    mode: u8,
+    laps: usize,
+    space: &mut [u8],
+)
     requires { 65536 ≤ length space.old }
 {
-    let m = input::read_count();
+    let m = input::read_count(input);
     let n = m.value;
     if !m.came {
-        short_input();
+        short_input(output);
         return;
     }
     let image = &mut space[..n];
-    if !input::fill(image) {
-        short_input();
+    if !input::fill(input, image) {
+        short_input(output);
         return;
     }
     let mut list = [0u8; 262144];
-    play_in(mode, laps, image, &mut list);
+    play_in(input, output, mode, laps, image, &mut list);
 }
 
-fn main() {
+fn main(rt: HostRuntime) {
+    let input = &mut rt.stdin();
+    let output = &mut rt.stdout();
     let mut mode = [0u8; 1];
-    let came = input::fill(&mut mode);
-    let laps = input::read_count();
+    let came = input::fill(input, &mut mode);
+    let laps = input::read_count(input);
     if !(came & laps.came) {
-        short_input();
+        short_input(output);
         return;
     }
     let mut space = [0u8; 65536];
-    play_image(mode[0], laps.value, &mut space);
+    play_image(input, output, mode[0], laps.value, &mut space);
 }

@@ -3,7 +3,6 @@ ghost use Rattle.std.specs.Prelude.{◌<◌};
 ghost use Rattle.io.specs.Counts.{IsPrefixLen};
 
 use card::Answer;
-use std::num::wrapping_add_u32;
 use streams::text::{push, push_number};
 
 fn wide(b: u8) -> u32
@@ -14,10 +13,10 @@ fn wide(b: u8) -> u32
 
 // 7 times the host answer, 3 times the response count, and the response's bytes.
 pub fn with_answer(sum: u32, answer: Answer, response: &[u8]) -> u32 {
-    let mut s = wrapping_add_u32(sum, wide(7 * runs::number(answer)));
+    let mut s = sum.wrapping_add(wide(7 * runs::number(answer)));
     let mut i = 0;
     while i < response.len() {
-        s = wrapping_add_u32(s, wide(response[i]) + 3);
+        s = s.wrapping_add(wide(response[i]) + 3);
         i += 1;
     }
     s
@@ -30,8 +29,8 @@ pub fn of_image(image: &[u8]) -> u32 {
     let mut i = image.len();
     while 0 < i {
         i -= 1;
-        after = wrapping_add_u32(after, wide(image[i]));
-        s = wrapping_add_u32(s, after);
+        after = after.wrapping_add(wide(image[i]));
+        s = s.wrapping_add(after);
     }
     s
 }

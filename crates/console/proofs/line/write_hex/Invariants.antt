@@ -1,0 +1,10 @@
+-- `console::line::write_hex` meets its contract: each piece ends inside the bytes and after its start.
+use Prim.Native.Nat.{◌≤◌, ◌-◌}
+use lib.ListN.{length}
+use Rattle.console.proofs.line.write_hex.Given as goal
+
+abbrev pub invariant-loop-at : goal.invariant-loop-at
+invariant-loop-at g l = l.at ≤ length l.bytes
+
+abbrev pub decreases-loop-at : goal.decreases-loop-at
+decreases-loop-at g l = length l.bytes - l.at
