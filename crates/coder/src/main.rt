@@ -8,7 +8,6 @@ ghost use Rattle.io.specs.Counts.{IsPrefixLen};
 use cases::kinds::Kind;
 use cases::operations::Operation;
 use codings::Answer;
-use std::io::{Read, Write};
 use streams::input::Count;
 use streams::text::{push, push_hex, push_number};
 use streams::{input, short_input, write};
@@ -28,21 +27,13 @@ fn spell(text: &mut [u8], k: usize, answer: Answer, file: &[u8], value: &[u8]) -
 }
 
 // A case's line.
-fn report<W: Write>(
-    output: &mut W,
-    k: usize,
-    answer: Answer,
-    file: &[u8],
-    value: &[u8],
-    text: &mut [u8],
-) {
+fn report(k: usize, answer: Answer, file: &[u8], value: &[u8], text: &mut [u8]) {
     let n = spell(text, k, answer, file, value);
-    write(output, &text[..n]);
+    write(&text[..n]);
 }
 
 // One case: its line shows what was decoded, or the value that was to be encoded.
-fn play<W: Write>(
-    output: &mut W,
+fn play(
     k: usize,
     kind: Kind,
     operation: Operation,
@@ -56,53 +47,46 @@ fn play<W: Write>(
             let answer = r.answer;
             let shown = r.value;
             let count = r.count;
-            report(output, k, answer, file, &shown[..count], text);
+            report(k, answer, file, &shown[..count], text);
         }
         Operation::Encode => {
             let answer = cases_encode::encode(kind, value, file);
-            report(output, k, answer, file, value, text);
+            report(k, answer, file, value, text);
         }
         Operation::Unknown => {
             let answer = cases_decode::other(kind, file);
-            report(output, k, answer, file, b"", text);
+            report(k, answer, file, b"", text);
         }
     }
 }
 
 // Reads a count and so many bytes.
-fn fill_counted<R: Read>(input: &mut R, to: &mut [u8]) -> Count
+fn fill_counted(to: &mut [u8]) -> Count
     requires { 65536 ≤ length to.old }
     ensures { result.value < 65536 }
 {
-    let m = input::read_count(input);
+    let m = input::read_count();
     let value = m.value;
     let mut came = m.came;
     if came {
-        came = input::fill(input, &mut to[..value]);
+        came = input::fill(&mut to[..value]);
     }
     Count { came, value }
 }
 
 // Reads case k, plays it and writes its line. Answers whether all of it came.
-fn next<R: Read, W: Write>(
-    input: &mut R,
-    output: &mut W,
-    k: usize,
-    file: &mut [u8],
-    value: &mut [u8],
-    text: &mut [u8],
-) -> bool
+fn next(k: usize, file: &mut [u8], value: &mut [u8], text: &mut [u8]) -> bool
     requires { (65536 ≤ length file.old) × (65536 ≤ length value.old) }
 {
     let mut head = [0u8; 2];
-    if !input::fill(input, &mut head) {
+    if !input::fill(&mut head) {
         return false;
     }
-    let f = fill_counted(input, file);
+    let f = fill_counted(file);
     if !f.came {
         return false;
     }
-    let v = fill_counted(input, value);
+    let v = fill_counted(value);
     if !v.came {
         return false;
     }
@@ -110,33 +94,18 @@ fn next<R: Read, W: Write>(
     let operation = cases::operations::operation_of(head[1]);
     let size = f.value;
     let long = v.value;
-    play(
-        output,
-        k,
-        kind,
-        operation,
-        &mut file[..size],
-        &value[..long],
-        text,
-    );
+    play(k, kind, operation, &mut file[..size], &value[..long], text);
     true
 }
 
 // So many cases. Answers whether all of them came.
-fn play_all<R: Read, W: Write>(
-    input: &mut R,
-    output: &mut W,
-    n: usize,
-    file: &mut [u8],
-    value: &mut [u8],
-    text: &mut [u8],
-) -> bool
+fn play_all(n: usize, file: &mut [u8], value: &mut [u8], text: &mut [u8]) -> bool
     requires { (65536 ≤ length file.old) × (65536 ≤ length value.old) }
 {
     let mut k = 0;
     while k < n {
         k += 1;
-        if !next(input, output, k, file, value, text) {
+        if !next(k, file, value, text) {
             return false;
         }
     }
@@ -150,25 +119,16 @@ fn text_room() -> [u8; 262200]
     [0; 262200]
 }
 
-fn main(rt: HostRuntime) {
-    let mut input = rt.stdin();
-    let mut output = rt.stdout();
-    let n = input::read_count(&mut input);
+fn main() {
+    let n = input::read_count();
     if !n.came {
-        short_input(&mut output);
+        short_input();
         return;
     }
     let mut file = io::large_buffer();
     let mut value = io::large_buffer();
     let mut text = text_room();
-    if !play_all(
-        &mut input,
-        &mut output,
-        n.value,
-        &mut file,
-        &mut value,
-        &mut text,
-    ) {
-        short_input(&mut output);
+    if !play_all(n.value, &mut file, &mut value, &mut text) {
+        short_input();
     }
 }

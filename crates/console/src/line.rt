@@ -3,7 +3,6 @@ ghost use Rattle.std.specs.Prelude.{◌≤◌, ◌<◌};
 ghost use Rattle.io.specs.Counts.{IsPrefixLen};
 
 use card::Answer;
-use std::io::Write;
 use streams::text::{push, push_hex, push_number};
 use streams::write;
 
@@ -20,10 +19,10 @@ fn spell(text: &mut [u8], k: usize, answer: Answer, response: &[u8]) -> usize
 }
 
 // A command's line.
-pub fn report<W: Write>(output: &mut W, k: usize, answer: Answer, response: &[u8]) {
+pub fn report(k: usize, answer: Answer, response: &[u8]) {
     let mut text = [0u8; 600];
     let n = spell(&mut text, k, answer, response);
-    write(output, &text[..n]);
+    write(&text[..n]);
 }
 
 // The bytes in hexadecimal: how many bytes of the text they take.
@@ -45,23 +44,23 @@ fn piece(at: usize, all: usize) -> usize
 }
 
 // Some bytes in hexadecimal, piece by piece.
-fn write_hex<W: Write>(output: &mut W, bytes: &[u8]) {
+fn write_hex(bytes: &[u8]) {
     let mut at = 0;
     while at < bytes.len() {
         let end = piece(at, bytes.len());
         let mut text = [0u8; 512];
         let n = hexed(&mut text, &bytes[at..end]);
-        write(output, &text[..n]);
+        write(&text[..n]);
         at = end;
     }
 }
 
 // The image, on a line of its own.
-pub fn tell_image<W: Write>(output: &mut W, image: &[u8]) {
-    write(output, b"image ");
+pub fn tell_image(image: &[u8]) {
+    write(b"image ");
     if image.len() == 0 {
-        write(output, b"-");
+        write(b"-");
     }
-    write_hex(output, image);
-    write(output, b"\n");
+    write_hex(image);
+    write(b"\n");
 }

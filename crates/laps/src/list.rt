@@ -1,7 +1,6 @@
 // A list of commands in one slice, each after its two-byte count.
 ghost use Rattle.std.specs.Prelude.{◌<◌, ◌≤◌, length};
 
-use std::io::Read;
 use streams::input;
 
 // Where a command's bytes stand.
@@ -43,7 +42,7 @@ pub struct Place {
 }
 
 // Reads so many bytes to a place of the list; more than it holds do not come.
-fn read_to<R: Read>(input: &mut R, list: &mut [u8], at: usize, n: usize) -> Place
+fn read_to(list: &mut [u8], at: usize, n: usize) -> Place
     requires { at ≤ length list.old }
     ensures { result.end ≤ length list.old }
 {
@@ -54,16 +53,16 @@ fn read_to<R: Read>(input: &mut R, list: &mut [u8], at: usize, n: usize) -> Plac
         };
     }
     let end = at + n;
-    let came = input::fill(input, &mut list[at..end]);
+    let came = input::fill(&mut list[at..end]);
     Place { came, end }
 }
 
 // Reads one command to a place of the list, with its count.
-fn read_one<R: Read>(input: &mut R, list: &mut [u8], at: usize) -> Place
+fn read_one(list: &mut [u8], at: usize) -> Place
     requires { at ≤ length list.old }
     ensures { result.end ≤ length list.old }
 {
-    let p = read_to(input, list, at, 2);
+    let p = read_to(list, at, 2);
     if !p.came {
         return p;
     }
@@ -71,17 +70,17 @@ fn read_one<R: Read>(input: &mut R, list: &mut [u8], at: usize) -> Place
         return p;
     }
     let n = input::join(list[at], list[at + 1]);
-    read_to(input, list, at + 2, n)
+    read_to(list, at + 2, n)
 }
 
 // Reads n commands.
-pub fn read_all<R: Read>(input: &mut R, list: &mut [u8], n: usize) -> Place
+pub fn read_all(list: &mut [u8], n: usize) -> Place
     ensures { result.end ≤ length list.old }
 {
     let mut p = Place { came: true, end: 0 };
     let mut k = 0;
     while k < n {
-        p = read_one(input, list, p.end);
+        p = read_one(list, p.end);
         if !p.came {
             return p;
         }

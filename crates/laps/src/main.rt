@@ -11,7 +11,6 @@ ghost use Rattle.std.specs.Prelude.{◌≡◌, ◌≤◌, true, length};
 ghost use Rattle.acts.specs.Ready.{Ready};
 
 use card::Session;
-use std::io::{Read, Write};
 use streams::{input, short_input};
 
 // The sum so far and the session.
@@ -68,71 +67,56 @@ fn play_laps(once: bool, laps: usize, image: &mut [u8], list: &[u8]) -> u32 {
 }
 
 // The line of both sums.
-fn tell<W: Write>(output: &mut W, answers: u32, image: u32) {
+fn tell(answers: u32, image: u32) {
     let mut text = [0u8; 64];
     let n = sums::spell(&mut text, answers, image);
-    streams::write(output, &text[..n]);
+    streams::write(&text[..n]);
 }
 
 // Reads the list into its space and plays the laps.
-fn play_in<R: Read, W: Write>(
-    input: &mut R,
-    output: &mut W,
-    mode: u8,
-    laps: usize,
-    image: &mut [u8],
-    space: &mut [u8],
-) {
-    let n = input::read_count(input);
+fn play_in(mode: u8, laps: usize, image: &mut [u8], space: &mut [u8]) {
+    let n = input::read_count();
     if !n.came {
-        short_input(output);
+        short_input();
         return;
     }
-    let read = list::read_all(input, space, n.value);
+    let read = list::read_all(space, n.value);
     if !read.came {
-        short_input(output);
+        short_input();
         return;
     }
     let end = read.end;
     let answers = play_laps(mode != 0, laps, image, &space[..end]);
-    tell(output, answers, sums::of_image(image));
+    tell(answers, sums::of_image(image));
 }
 
 // Reads the image and goes on to the list.
-fn play_image<R: Read, W: Write>(
-    input: &mut R,
-    output: &mut W,
-    mode: u8,
-    laps: usize,
-    space: &mut [u8],
-)
+fn play_image(mode: u8, laps: usize, space: &mut [u8])
     requires { 65536 ≤ length space.old }
 {
-    let m = input::read_count(input);
+    let m = input::read_count();
     let n = m.value;
     if !m.came {
-        short_input(output);
+        short_input();
         return;
     }
     let image = &mut space[..n];
-    if !input::fill(input, image) {
-        short_input(output);
+    if !input::fill(image) {
+        short_input();
         return;
     }
     let mut list = [0u8; 262144];
-    play_in(input, output, mode, laps, image, &mut list);
+    play_in(mode, laps, image, &mut list);
 }
 
-fn main(rt: HostRuntime) {
-    let input = &mut rt.stdin();
-    let output = &mut rt.stdout();
+fn main() {
     let mut mode = [0u8; 1];
-    let came = input::fill(input, &mut mode);
-    let laps = input::read_count(input);
+    let came = input::fill(&mut mode);
+    let laps = input::read_count();
     if !(came & laps.came) {
-        short_input(output);
+        short_input();
         return;
     }
     let mut space = [0u8; 65536];
-    play_image(input, output, mode[0], laps.value, &mut space);
+    play_image(mode[0], laps.value, &mut space);
 }

@@ -2,6 +2,6 @@
 // count. One line a command.
 #![tactic(auto)]
 
-fn main(rt: HostRuntime) {
-    console::run(&mut rt.stdin(), &mut rt.stdout(), false);
+fn main() {
+    console::run(false);
 }

@@ -1,7 +1,8 @@
-// What is read from a program's input, and no byte more.
+// What is read from standard input, and no byte more.
 ghost use Rattle.std.specs.Prelude.{◌+◌, ◌*◌, ◌<◌, ◌≡◌};
 
-use std::io::Read;
+// Standard input.
+const STDIN: i32 = 0;
 
 // A two-byte count; nothing came where the input ends before it.
 #[derive(Clone, Copy)]
@@ -16,9 +17,9 @@ fn wide(b: u8) -> usize
     b as usize
 }
 
-// Fills the slice; answers whether so many bytes came. A read that fails ends the input.
-pub fn fill<R: Read>(input: &mut R, to: &mut [u8]) -> bool {
-    input.read_exact(to).is_ok()
+// Fills the slice; answers whether so many bytes came.
+pub fn fill(to: &mut [u8]) -> bool {
+    io::read_full(STDIN, to) == to.len()
 }
 
 // Two bytes, high byte first.
@@ -28,11 +29,11 @@ pub fn join(high: u8, low: u8) -> usize
     256 * wide(high) + wide(low)
 }
 
-pub fn read_count<R: Read>(input: &mut R) -> Count
+pub fn read_count() -> Count
     ensures { result.value < 65536 }
 {
     let mut two = [0u8; 2];
-    let came = fill(input, &mut two);
+    let came = fill(&mut two);
     let value = join(two[0], two[1]);
     Count { came, value }
 }

@@ -3,7 +3,7 @@ use borrow.Author.Rules.{rules}
 use Rattle.console.proofs.play_all.Goals as goal
 
 pub loop-k-init : goal.loop-k-init
-loop-k-init g c = (search rules, (search rules, (search rules, (search rules, c.tested-known.ensures.ready))))
+loop-k-init c = (search rules, (search rules, (search rules, (search rules, c.tested-known.ensures.ready))))
 
 pub loop-k-preserved : goal.loop-k-preserved
-loop-k-preserved g c = (search rules, (search rules, (search rules, (search rules, c.play_one-t.ensures))))
+loop-k-preserved c = (search rules, (search rules, (search rules, (search rules, c.play_one-t.ensures))))

@@ -7,8 +7,8 @@ use Rattle.acts.specs.Ready.{Ready}
 use Rattle.console.proofs.play_all.Given as goal
 
 abbrev pub invariant-loop-k : goal.invariant-loop-k
-invariant-loop-k g l =
+invariant-loop-k l =
     (l.k ≤ l.n) × ((65536 ≡ length l.space) × ((258 ≡ length l.room) × ((length l.image ≡ length l.initial.image) × (l.known ≡ true → Ready l.image l.session))))
 
 abbrev pub decreases-loop-k : goal.decreases-loop-k
-decreases-loop-k g l = l.n - l.k
+decreases-loop-k l = l.n - l.k

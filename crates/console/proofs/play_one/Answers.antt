@@ -4,7 +4,7 @@ use Rattle.runs.proofs.Responses.{within}
 use Rattle.console.proofs.play_one.Goals as goal
 
 pub slice_bounds-report-end : goal.slice_bounds-report-end
-slice_bounds-report-end g c = within c.play_on-played.ensures.ends
+slice_bounds-report-end c = within c.play_on-played.ensures.ends
 
 pub slice_bounds-report-end-2 : goal.slice_bounds-report-end-2
-slice_bounds-report-end-2 g c = length-take_of_le _ _ (within c.play_on-played.ensures.ends)
+slice_bounds-report-end-2 c = length-take_of_le _ _ (within c.play_on-played.ensures.ends)

@@ -3,7 +3,7 @@ use Rattle.std.proofs.Common.{◌≡◌, ◌-◌, ◌≤◌, length}
 use Rattle.laps.proofs.list.read_all.Given as goal
 
 abbrev pub invariant-loop-k : goal.invariant-loop-k
-invariant-loop-k g l = (length l.list ≡ length l.initial.list) × (l.p.end ≤ length l.list)
+invariant-loop-k l = (length l.list ≡ length l.initial.list) × (l.p.end ≤ length l.list)
 
 abbrev pub decreases-loop-k : goal.decreases-loop-k
-decreases-loop-k g l = l.n - l.k
+decreases-loop-k l = l.n - l.k
