@@ -12,6 +12,7 @@ use Rattle.commands.specs.Gives.{brief}
 use Rattle.commands_records.specs.Stands.{Recorded}
 use Rattle.commands_increase.proofs.Increasing.{read_whole, told_whole, told_all, countable, summed, not_increased, too_much, increased}
 use Rattle.commands_increase.proofs.increase_by.Goals as goal
+use Rattle.commands_increase.proofs.increase_by.Goals.{After-wide-from}
 
 pub returns-then-word-ne0 : goal.returns-then-word-ne0
 returns-then-word-ne0 c = let a = c.args in
@@ -47,9 +48,9 @@ slice_bounds-waits_padded-end c = let a = c.args in
     omega (arith, f.1, c.wide-from.ensures.0, told_whole _ a.added.now _ c.told_sum-told.ensures c.requires.counts.three)
 
 pub waits_padded-requires : goal.waits_padded-requires
-waits_padded-requires c = let a = c.args in
-    let f : Recorded a.e × (a.e.width ≡ 3) = countable a.r a.e a.b.now a.added.now a.s.pointer _ c.requires.stands c.requires.counts c.shared-word.ensures c.if-word-ne0.false in
-    read_whole c.told_sum-told.result (c.wide-from.result - 3) (omega (arith, f.1, c.wide-from.ensures.0, told_whole _ a.added.now _ c.told_sum-told.ensures c.requires.counts.three))
+waits_padded-requires c =
+    let k : After-wide-from = (goal.at.waits_padded-requires c).After-wide-from in
+    read_whole k.told_sum-told.result (k.wide-from.result - 3) (slice_bounds-waits_padded-end k)
 
 pub returns : goal.returns
 returns c = let a = c.args in
