@@ -45,7 +45,7 @@ fn step(
     requires answer_len { length answer.old ≡ 261 }
     ensures told { Told (play image.old session command.now 258)
         result image.new answer.old answer.new }
-    ensures ready_2 { known ≡ true → Ready image.new result.session }
+    ensures stays_ready { known ≡ true → Ready image.new result.session }
 {
     let played = runs::play_on(known, image, session, command, &mut answer[3..]);
     let host = played.answer;

@@ -68,7 +68,7 @@ pub loop-ran-preserved : goal.loop-ran-preserved
 loop-ran-preserved c = let loop = c.loop-ran in
     let call = c.step-done in
     let w = c.wide_word in
-    onward loop.invariant w.result (w.ensures.0 ∙ c.word.ensures) (add-sub_cancel_left _ _) (add-sub_cancel_left loop.ran.written 261) (going (goal.at.loop-ran-preserved c).Else-not-whole-until) call.ensures.told call.auto.image call.auto.answer c.loop-ran-test.true (sym (tests loop.invariant _ c.whole.ensures) ∙ c.if-not-whole-until.false-raw) call.ensures.ready_2
+    onward loop.invariant w.result (w.ensures.0 ∙ c.word.ensures) (add-sub_cancel_left _ _) (add-sub_cancel_left loop.ran.written 261) (going (goal.at.loop-ran-preserved c).Else-not-whole-until) call.ensures.told call.auto.image call.auto.answer c.loop-ran-test.true (sym (tests loop.invariant _ c.whole.ensures) ∙ c.if-not-whole-until.false-raw) call.ensures.stays_ready
 
 pub returns : goal.returns
 returns c = finished c.loop-ran.invariant c.loop-ran-test.false

@@ -20,5 +20,5 @@ returns c = let a = c.args in
     let call = c.play_on-played in
     record {
       told = told a.answer.now call.new.room c.requires.answer_len call.auto.room a.image.now a.session a.command.now _ c.number.ensures.0 call.ensures.ends;
-      ready_2 = call.ensures.ready;
+      stays_ready = call.ensures.ready;
     }
