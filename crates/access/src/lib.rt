@@ -1,19 +1,20 @@
-// Access conditions, invalidation, and the refusals that every command on a file shares.
+// Access conditions, invalidation, and the refusals that every command on a file shares. Rights and an entry go together as two
+// parameters and as no struct: so the definition's functions take them, in whose words each command makes its promise.
 #![tactic(auto)]
 
-ghost use Rattle.std.specs.Prelude.{◌≡◌, []};
+ghost use Rattle.std.specs.Prelude.{◌≡◌, [], true, false, OnOk};
 ghost use Rattle.card.specs.Access.{level, fulfilled, allowed, valid, usable, barred, shared};
 ghost use Rattle.card.specs.Answers.{first};
+ghost use Rattle.card.specs.Refused.{word_in};
 
-use card::{Act, Entry, Rights};
+use card::{Act, Entry, Refused, Rights};
 
 // The half of the access bytes that an act goes by.
 fn level(e: Entry, a: Act) -> u8
     ensures { result ≡ level e a }
 {
     match a {
-        Act::Read => e.access1 / 16,
-        Act::Seek => e.access1 / 16,
+        Act::Read | Act::Seek => e.access1 / 16,
         Act::Update => e.access1 % 16,
         Act::Increase => e.access2 / 16,
         Act::Rehabilitate => e.access3 / 16,
@@ -25,7 +26,12 @@ fn level(e: Entry, a: Act) -> u8
 fn fulfilled(r: Rights, n: u8) -> bool
     ensures { result ≡ fulfilled r n }
 {
-    (n == 0) | ((n == 1) & r.level1) | ((n == 2) & r.level2)
+    match n {
+        0 => true,
+        1 => r.level1,
+        2 => r.level2,
+        _ => false,
+    }
 }
 
 fn allowed(r: Rights, e: Entry, a: Act) -> bool
@@ -51,30 +57,27 @@ fn usable(e: Entry) -> bool
 fn barred(e: Entry, a: Act) -> bool
     ensures { result ≡ barred e a }
 {
-    let valid = valid(e);
-    let usable = usable(e);
     match a {
-        Act::Read => !(valid | usable),
-        Act::Seek => !valid,
-        Act::Update => !(valid | usable),
-        Act::Increase => !valid,
-        Act::Rehabilitate => valid,
-        Act::Invalidate => !valid,
+        Act::Read | Act::Update => !(valid(e) || usable(e)),
+        Act::Seek | Act::Increase | Act::Invalidate => !valid(e),
+        Act::Rehabilitate => valid(e),
     }
 }
 
-// The word of the first shared refusal that holds, and 0 where none does.
-pub fn shared(r: Rights, e: Entry, a: Act, suits: bool) -> u16
-    ensures { result ≡ first (shared r e a suits []) }
+// The first shared refusal that holds.
+#[tactic(auto, unfolding(card::specs::Access::shared, card::specs::Answers::first))]
+pub fn shared(r: Rights, e: Entry, a: Act, suits: bool) -> Result<(), Refused>
+    ensures refused { word_in result ≡ first (shared r e a suits []) }
+    ensures granted { OnOk result ((suits ≡ true) × (barred e a ≡ false) × (allowed r e a ≡ true)) }
 {
     if !suits {
-        return 0x9408;
+        return Err(Refused::Unsuited);
     }
     if barred(e, a) {
-        return 0x9810;
+        return Err(Refused::Invalidated);
     }
     if !allowed(r, e, a) {
-        return 0x9804;
+        return Err(Refused::NotAllowed);
     }
-    0
+    Ok(())
 }

@@ -1,4 +1,5 @@
 -- An effect that leaves the head and the current file's bytes leaves the image.
+use Rattle.std.specs.Prelude.{ℕ, Option, Some, None}
 use Prim.Native.Nat.{ℕ}
 use mathlib.Core.Path.{◌≡◌, refl, sym, ap, ◌∙◌}
 use mathlib.Core.List.{List}
@@ -7,8 +8,6 @@ use Rattle.card.specs.Answers as card
 use Rattle.card.specs.Images.{Image}
 use Rattle.card.specs.Layout.{index, file, start, head, contents}
 use Rattle.card.specs.Play.{opened, headed, filled, afterwards}
-use Rattle.card.specs.declared.Current.{Current}
-use Rattle.card.specs.declared.Current.TheVariants.{Nothing, File}
 use Rattle.card.specs.declared.Session.{Session}
 use Rattle.card.proofs.Images.{image}
 use Rattle.card.proofs.Places.{store_inside}
@@ -19,12 +18,12 @@ use Rattle.acts.specs.Ready.{Ready}
 use Rattle.acts.proofs.Lent.{front_back, part_back}
 
 -- the current file's bytes, put back
-pub unfilled : (l : List ℕ) (c : Current) → filled l c (opened l c) ≡ l
+pub unfilled : (l : List ℕ) (c : Option ℕ) → filled l c (opened l c) ≡ l
 unfolding contents
-unfilled l Nothing = refl
-unfilled l (File f) = part_back l (start l f) (file l f).size
+unfilled l None = refl
+unfilled l (Some f) = part_back l (start l f) (file l f).size
 
-pub kept : (l : List ℕ) → Image l → (c : Current) (r : card.Reply) → l ≡ afterwards l c (card.effect (head l) (opened l c) r)
+pub kept : (l : List ℕ) → Image l → (c : Option ℕ) (r : card.Reply) → l ≡ afterwards l c (card.effect (head l) (opened l c) r)
 unfolding head
 kept l m c r =
     sym (ap (λ (x : List ℕ). headed x (take (index l).store l)) (unfilled l c) ∙ front_back l (index l).store (store_inside l m))

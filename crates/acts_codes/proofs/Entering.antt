@@ -93,17 +93,10 @@ module _ {l : List ℕ} {s : Session} (r : Ready l s) (c : ℕ) (h : c < 2) wher
       }
 
   -- the part goes from the entry's place to where it ends
-  abbrev span : ℕ
-  span = code_at c + 20 - code_at c
-
-  pub coded : (command : List ℕ → ℕ → card.Coded) (t : Reply) (new : List ℕ) → length new ≡ length (part l (code_at c) span)
-      → given.Codes (command (part l (code_at c) span) c) t new
-      → Codes command l s c t (splice l (code_at c) span new)
-  coded command t new =
-      let e : 20 ≡ span = omega arith in
-      subst
-      (λ (n : ℕ). length new ≡ length (part l (code_at c) n)
-      → given.Codes (command (part l (code_at c) n) c) t new
-      → Codes command l s c t (splice l (code_at c) n new))
-      e
-      (by20 command t new)
+  pub coded : (command : List ℕ → ℕ → card.Coded) (from to : ℕ) (t : Reply) (new : List ℕ) → (from ≡ code_at c) × (to ≡ code_at c + 20)
+      → length new ≡ length (part l from (to - from))
+      → given.Codes (command (part l from (to - from)) c) t new
+      → Codes command l s c t (splice l from (to - from) new)
+  coded command from to t new at =
+      let e : to - from ≡ 20 = omega (arith, at.0, at.1) in
+      rw (e, at.0) (by20 command t new)

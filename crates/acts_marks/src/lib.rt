@@ -6,7 +6,7 @@ ghost use Rattle.acts.specs.Leaves.{Marks};
 ghost use Rattle.acts.specs.Ready.{Ready};
 
 use acts_stand::spot;
-use card::{Current, Session};
+use card::{Refused, Session};
 use commands::answers::{Reply, refusal};
 
 // Where the status stands in a file's entry.
@@ -17,29 +17,26 @@ pub fn invalidate(image: &mut [u8], s: Session) -> Reply
     requires { Ready image.old s }
     ensures { Marks (λ r e. invalidate r e s) image.old s result image.new }
 {
-    let current = s.current;
-    let Current::File(f) = current else {
-        return refusal(s, 0x9400);
+    let Some(f) = s.current else {
+        return refusal(s, u16::from(Refused::NoFile));
     };
     let p = spot(image, s, f);
     let marked = commands_marks::invalidate(p.rights, p.entry, s);
-    let status = p.at + STATUS;
-    image[status] = marked.status;
+    image[p.at + STATUS] = marked.status;
     marked.reply
 }
 
-// The mark says valid again. Only this player's crates call it.
+// The mark says valid again. Only this player's crates call it. A function beside `invalidate`, as one over the command as a closure would
+// need a contract on what that tells, longer than both.
 pub fn rehabilitate(image: &mut [u8], s: Session) -> Reply
     requires { Ready image.old s }
     ensures { Marks (λ r e. rehabilitate r e s) image.old s result image.new }
 {
-    let current = s.current;
-    let Current::File(f) = current else {
-        return refusal(s, 0x9400);
+    let Some(f) = s.current else {
+        return refusal(s, u16::from(Refused::NoFile));
     };
     let p = spot(image, s, f);
     let cleared = commands_marks::rehabilitate(p.rights, p.entry, s);
-    let status = p.at + STATUS;
-    image[status] = cleared.status;
+    image[p.at + STATUS] = cleared.status;
     cleared.reply
 }

@@ -10,7 +10,7 @@ ghost use Rattle.acts.specs.Leaves.{Reads};
 ghost use Rattle.acts.specs.Ready.{Ready};
 
 use acts_stand::stand;
-use card::{Current, Session};
+use card::{Refused, Session};
 use commands::answers::{Reply, refusal};
 
 // The n bytes from a place on, into the room. Only this player's crates call it.
@@ -19,14 +19,11 @@ pub fn read_binary(image: &[u8], s: Session, at: usize, n: usize, room: &mut [u8
     requires n_in_bounds { n ≤ length room.old }
     ensures { Reads (λ r e b. read_binary r e b s at n) image.now s result room.old room.new }
 {
-    let current = s.current;
-    let Current::File(f) = current else {
-        return refusal(s, 0x9400);
+    let Some(f) = s.current else {
+        return refusal(s, u16::from(Refused::NoFile));
     };
     let p = stand(image, s, f);
-    let start = p.start;
-    let end = p.end;
-    commands_binary::read_binary(p.rights, p.entry, &image[start..end], s, at, n, room)
+    commands_binary::read_binary(p.rights, p.entry, &image[p.start..p.end], s, at, n, room)
 }
 
 // A record of n bytes, into the room. Only this player's crates call it.
@@ -42,17 +39,14 @@ pub fn read_record(
     requires n_in_bounds { n ≤ length room.old }
     ensures { Reads (λ r e b. read_record r e b s number mode n) image.now s result room.old room.new }
 {
-    let current = s.current;
-    let Current::File(f) = current else {
-        return refusal(s, 0x9400);
+    let Some(f) = s.current else {
+        return refusal(s, u16::from(Refused::NoFile));
     };
     let p = stand(image, s, f);
-    let start = p.start;
-    let end = p.end;
     commands_records::read_record(
         p.rights,
         p.entry,
-        &image[start..end],
+        &image[p.start..p.end],
         s,
         number,
         mode,
@@ -67,12 +61,9 @@ pub fn seek_record(image: &[u8], s: Session, mode: usize, pattern: &[u8]) -> Rep
     requires mode_bound { mode / 16 < 2 }
     ensures { (room : List ℕ) → Reads (λ r e b. seek_record r e b s mode pattern.now) image.now s result room room }
 {
-    let current = s.current;
-    let Current::File(f) = current else {
-        return refusal(s, 0x9400);
+    let Some(f) = s.current else {
+        return refusal(s, u16::from(Refused::NoFile));
     };
     let p = stand(image, s, f);
-    let start = p.start;
-    let end = p.end;
-    commands_seek::seek_record(p.rights, p.entry, &image[start..end], s, mode, pattern)
+    commands_seek::seek_record(p.rights, p.entry, &image[p.start..p.end], s, mode, pattern)
 }

@@ -1,9 +1,7 @@
 -- What SELECT enters, by the number that it found. The bytes on it stand from a place on, with zeros after them up to 22 bytes.
-use Rattle.std.specs.Prelude.{ℕ, List, ◌++◌, replicate}
+use Rattle.std.specs.Prelude.{ℕ, List, ◌++◌, replicate, Some, None}
 use Rattle.card.specs.Layout.{file}
 use Rattle.card.specs.Select.{directory_response, file_response, first_pointer}
-use Rattle.card.specs.declared.Current.TheVariants.{Nothing, File}
-use Rattle.card.specs.declared.Pointer.TheVariants.{Undefined}
 use Rattle.acts_select.specs.declared.Found.{Found}
 
 -- directory d
@@ -11,8 +9,8 @@ unfoldable pub found_directory : List ℕ → ℕ → Found
 found_directory h d =
     record {
       directory = d;
-      current = Nothing;
-      pointer = Undefined;
+      current = None;
+      pointer = None;
       told = replicate 4 0 ++ directory_response h d;
       from = 4;
       count = 22;
@@ -23,7 +21,7 @@ unfoldable pub found_file : List ℕ → ℕ → ℕ → Found
 found_file h d f =
     record {
       directory = d;
-      current = File f;
+      current = Some f;
       pointer = first_pointer (file h f);
       told = file_response (file h f) ++ replicate 11 0;
       from = 0;

@@ -4,38 +4,37 @@
 ghost use Rattle.std.specs.Prelude.{◌≡◌, List, ℕ, ◌<◌, ◌≤◌, length};
 ghost use Rattle.card.specs.Layout.{head};
 ghost use Rattle.card.specs.Select.{first_pointer, select, tell_status};
-ghost use Rattle.shelf.specs.Reads.{Head};
 ghost use Rattle.acts.specs.Leaves.{Tells};
 ghost use Rattle.acts.specs.Ready.{Ready};
 ghost use Rattle.acts_select.specs.Finds.{found_directory, found_file};
 
-use card::{Current, Entry, Index, Pointer, Session};
+use card::{Entry, Refused, Session};
 use commands::answers::{Reply, refusal};
 use commands_select::select::{selected, tell_status};
-use shelf::read;
+use shelf::head::ImageHead;
 
-// What SELECT enters, from where the bytes on it stand in these, and how many they are.
+// What SELECT enters, from where the bytes on it stand in these, and how many they are: 26 bytes and a place and no bytes of their own, so
+// that 22 are copied at once.
 #[derive(Clone, Copy)]
 struct Found {
     directory: usize,
-    current: Current,
-    pointer: Pointer,
+    current: Option<usize>,
+    pointer: Option<usize>,
     told: [u8; 26],
     from: usize,
     count: usize,
 }
 
 // A directory, without a file.
-fn found_directory(head: &[u8], i: Index, d: usize) -> Found
-    requires head { Head head.now i }
-    requires d_lt_directories { d < i.directories }
-    ensures { result ≡ found_directory head.now d }
+fn found_directory(head: &ImageHead, d: usize) -> Found
+    requires { d < head.now.shelf.index.directories }
+    ensures { result ≡ found_directory head.now.shelf.bytes.now d }
 {
-    let told = shelf_tell::directory_response(head, i, d);
+    let told = shelf_tell::directory_response(head, d);
     Found {
         directory: d,
-        current: Current::Nothing,
-        pointer: Pointer::Undefined,
+        current: None,
+        pointer: None,
         told,
         from: 4,
         count: 22,
@@ -43,27 +42,26 @@ fn found_directory(head: &[u8], i: Index, d: usize) -> Found
 }
 
 // The pointer of a file just selected.
-fn first_pointer(e: Entry) -> Pointer
+fn first_pointer(e: Entry) -> Option<usize>
     ensures { result ≡ first_pointer e }
 {
     if e.structure == 3 {
-        return Pointer::At(1);
+        return Some(1);
     }
-    Pointer::Undefined
+    None
 }
 
 // A file, in the directory where it is found.
-fn found_file(head: &[u8], i: Index, d: usize, f: usize) -> Found
-    requires head { Head head.now i }
-    requires f_lt_files { f < i.files }
-    ensures { result ≡ found_file head.now d f }
+fn found_file(head: &ImageHead, d: usize, f: usize) -> Found
+    requires { f < head.now.shelf.index.files }
+    ensures { result ≡ found_file head.now.shelf.bytes.now d f }
 {
-    let e = entries::file(head, i.table + 14 * f);
+    let e = entries::file(head.shelf.bytes, head.shelf.index.table + 14 * f);
     let pointer = first_pointer(e);
     let told = shelf_tell::file_response(e);
     Found {
         directory: d,
-        current: Current::File(f),
+        current: Some(f),
         pointer,
         told,
         from: 0,
@@ -77,31 +75,21 @@ pub fn select(image: &[u8], s: Session, id: u16) -> Reply
     requires { Ready image.now s }
     ensures { (room : List ℕ) → Tells (select (head image.now) s id) image.now s result room room }
 {
-    let i = read::image_index(image);
-    let store = i.store;
-    let head = &image[..store];
-    let d = shelf_find::find_directory(head, i, s.directory, id);
-    let found = if d < i.directories {
-        found_directory(head, i, d)
+    let head = ImageHead::of(image);
+    let found = if let Some(d) = shelf_find::find_directory(&head, s.directory, id) {
+        found_directory(&head, d)
+    } else if let Some(f) = shelf_find::find_file(&head, s.directory, id) {
+        found_file(&head, s.directory, f)
     } else {
-        let f = shelf_find::find_file(head, i, s.directory, id);
-        if i.files <= f {
-            return refusal(s, 0x9404);
-        }
-        found_file(head, i, s.directory, f)
+        return refusal(s, u16::from(Refused::NotFound));
     };
-    let told = found.told;
-    let count = found.count;
-    let current = found.current;
-    let pointer = found.pointer;
-    let from = found.from;
-    let end = from + 22;
+    let end = found.from + 22;
     selected(
         found.directory,
-        current,
-        pointer,
-        &told[from..end],
-        count,
+        found.current,
+        found.pointer,
+        &found.told[found.from..end],
+        found.count,
         s,
     )
 }
@@ -112,8 +100,7 @@ pub fn status(image: &[u8], s: Session, n: usize, room: &mut [u8]) -> Reply
     requires n_bound { (n ≤ 22) × (22 ≤ length room.old) }
     ensures { Tells (tell_status (head image.now) s n) image.now s result room.old room.new }
 {
-    let i = read::image_index(image);
-    let store = i.store;
-    let told = shelf_tell::directory_response(&image[..store], i, s.directory);
+    let head = ImageHead::of(image);
+    let told = shelf_tell::directory_response(&head, s.directory);
     tell_status(told, s, n, room)
 }

@@ -1,4 +1,5 @@
 -- A command on the current file, carried out: laws over any command, and what the commands take for granted.
+use Rattle.std.specs.Prelude.{Some, None}
 use Prim.Native.Nat.{ℕ, ◌-◌}
 use mathlib.Core.Path.{◌≡◌, refl, sym, ap, subst, ◌∙◌}
 use mathlib.Core.List.{List}
@@ -12,7 +13,6 @@ use Rattle.card.specs.Bytes.{part}
 use Rattle.card.specs.Layout.{file, head, contents}
 use Rattle.card.specs.Play.{opened, by_file}
 use Rattle.card.specs.Shelf.{file_rules, all}
-use Rattle.card.specs.declared.Current.TheVariants.{Nothing, File}
 use Rattle.card.specs.declared.Entry.{Entry}
 use Rattle.card.specs.declared.Rights.{Rights}
 use Rattle.card.specs.declared.Session.{Session}
@@ -33,11 +33,11 @@ use Rattle.acts_stand.specs.declared.Site.{Site}
 use Rattle.acts_stand.proofs.Standing.{points_within}
 
 module _ {A : Type 0} (leave : List ℕ → List ℕ → ℕ → A → card.Effect) where
-  by_none : (command : Rights → Entry → A) (h b : List ℕ) (s : Session) → s.current ≡ Nothing
+  by_none : (command : Rights → Entry → A) (h b : List ℕ) (s : Session) → s.current ≡ None
       → card.effect h b (card.refusal s 0x9400) ≡ by_file leave h b s command
   by_none command h b s c = rw c
 
-  by_some : (command : Rights → Entry → A) (h b : List ℕ) (s : Session) (f : ℕ) → s.current ≡ File f
+  by_some : (command : Rights → Entry → A) (h b : List ℕ) (s : Session) (f : ℕ) → s.current ≡ Some f
       → leave h b f (command (rights h s) (file h f)) ≡ by_file leave h b s command
   by_some command h b s f c = rw c
 
@@ -48,7 +48,7 @@ module _ {A : Type 0} (leave : List ℕ → List ℕ → ℕ → A → card.Effe
       Leaves (by_file leave (head l) b s (λ r e. command r e b)) l s t image was is
 
   -- no current file: whatever the command, a refusal
-  pub none : {l : List ℕ} {s : Session} (command : Rights → Entry → List ℕ → A) → Ready l s → s.current ≡ Nothing
+  pub none : {l : List ℕ} {s : Session} (command : Rights → Entry → List ℕ → A) → Ready l s → s.current ≡ None
       → {t : Reply} → t ≡ brief (card.refusal s 0x9400) → (room : List ℕ) → Done command l s t l room room
   none {l} {s} command r c {t} e room =
       let b : List ℕ = opened l s.current in

@@ -1,4 +1,5 @@
 -- Where the current file stands: laws of what is read of it.
+use Rattle.std.specs.Prelude.{ℕ, Option, Some}
 use Prim.Native.Nat.{ℕ, ◌+◌, ◌*◌, ◌≤◌, ◌<◌}
 use mathlib.Core.Path.{◌≡◌, refl, sym, ap, ◌∙◌}
 use mathlib.Core.List.{List}
@@ -13,8 +14,6 @@ use Rattle.card.specs.Bytes.{word}
 use Rattle.card.specs.Images.{Image}
 use Rattle.card.specs.Layout.{index, file, file_entry, file_at, start, sizes, head}
 use Rattle.card.specs.Sessions.{fits, stands, pointed, padded}
-use Rattle.card.specs.declared.Current.{Current}
-use Rattle.card.specs.declared.Current.TheVariants.{File}
 use Rattle.card.specs.declared.Entry.{Entry}
 use Rattle.card.specs.declared.Index.{Index}
 use Rattle.card.specs.declared.Rights.{Rights}
@@ -49,13 +48,13 @@ unfolding rights
 rights_head l m s = let n = m.codes in simp (code_head l 0 (omega arith), code_head l 1 (omega arith))
 
 -- the current file is one of the image's, and its pointer stands within it
-module _ {l : List ℕ} {s : Session} (r : Ready l s) (f : ℕ) (c : s.current ≡ File f) where
-  standing : stands (head l) s.directory (File f) s.pointer ≡ true
+module _ {l : List ℕ} {s : Session} (r : Ready l s) (f : ℕ) (c : s.current ≡ Some f) where
+  standing : stands (head l) s.directory (Some f) s.pointer ≡ true
   unfolding fits
   standing =
       let d : Bool = ltb s.directory (index (head l)).directories in
       let t : Bool = stands (head l) s.directory s.current s.pointer in
-      ap (λ (x : Current). stands (head l) s.directory x s.pointer) (sym c)
+      ap (λ (x : Option ℕ). stands (head l) s.directory x s.pointer) (sym c)
       ∙ (both d t (both (d && t) (padded s.waiting s.count) r.session).0).1
 
   pub among : f < (index l).files

@@ -1,8 +1,7 @@
 -- The current file, as the code has read it.
-use Rattle.std.specs.Prelude.{ℕ, ◌+◌, ◌≤◌, ◌<◌, ◌≡◌, List, length}
+use Rattle.std.specs.Prelude.{ℕ, ◌+◌, ◌≤◌, ◌<◌, ◌≡◌, List, length, Some}
 use Rattle.card.specs.Access.{rights}
 use Rattle.card.specs.Layout.{index, file, file_at, start, head}
-use Rattle.card.specs.declared.Current.TheVariants.{File}
 use Rattle.card.specs.declared.Session.{Session}
 use Rattle.acts.specs.Ready.{Ready}
 use Rattle.acts_stand.specs.declared.Place.{Place}
@@ -15,7 +14,7 @@ site l s f = record { rights = rights (head l) s; entry = file l f; at = file_at
 -- File f is the current one, p is what the definition says of it, and its entry lies inside the image.
 pub record Spotted (l : List ℕ) (s : Session) (f : ℕ) (p : Site) : Type 0 where
   pub ready : Ready l s
-  pub current : s.current ≡ File f
+  pub current : s.current ≡ Some f
   pub among : f < (index l).files
   pub is : p ≡ site l s f
   pub inside : p.at + 14 ≤ length l

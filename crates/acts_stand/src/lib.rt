@@ -1,17 +1,15 @@
 // What a command on the current file goes by, read from the image once: the laws of such a command stand beside it.
 #![tactic(auto)]
 
-ghost use Rattle.std.specs.Prelude.{◌≡◌, ◌+◌, ◌*◌, ◌<◌, ◌≤◌, length};
+ghost use Rattle.std.specs.Prelude.{◌≡◌, ◌+◌, ◌*◌, ◌<◌, ◌≤◌, length, Some};
 ghost use Rattle.card.specs.Access.{rights};
 ghost use Rattle.card.specs.Layout.{start};
-ghost use Rattle.card.specs.declared.Current.TheVariants.{File};
 ghost use Rattle.shelf.specs.Reads.{Indexed};
 ghost use Rattle.acts.specs.Ready.{Ready};
 ghost use Rattle.acts_stand.specs.Here.{Spotted, Here};
 
 use card::{Entry, Index, Rights, Session};
 use entries::{CHV1, CHV2};
-use parts::wide_word;
 use shelf::read;
 
 // The rights, the file's entry and the entry's place.
@@ -53,10 +51,8 @@ fn start(l: &[u8], i: Index, f: usize) -> usize
 {
     let table = i.table;
     let mut sum: usize = 0;
-    let mut g = 0;
-    while g < f {
-        sum += wide_word(entries::word(l, table + 14 * g + 10));
-        g += 1;
+    for g in 0..f {
+        sum += usize::from(entries::word(l, table + 14 * g + 10));
     }
     i.store + sum
 }
@@ -64,7 +60,7 @@ fn start(l: &[u8], i: Index, f: usize) -> usize
 // The current file, but for its bytes: no size is summed up. Only this player's crates call it.
 pub fn spot(l: &[u8], s: Session, f: usize) -> Site
     requires ready { Ready l.now s }
-    requires current_value { s.current ≡ File f }
+    requires current_value { s.current ≡ Some f }
     ensures { Spotted l.now s f result }
 {
     let i = read::image_index(l);
@@ -77,19 +73,16 @@ pub fn spot(l: &[u8], s: Session, f: usize) -> Site
 // The current file. Only this player's crates call it.
 pub fn stand(l: &[u8], s: Session, f: usize) -> Place
     requires ready { Ready l.now s }
-    requires current_value { s.current ≡ File f }
+    requires current_value { s.current ≡ Some f }
     ensures { Here l.now s f result }
 {
     let site = spot(l, s, f);
-    let rights = site.rights;
-    let entry = site.entry;
-    let at = site.at;
     let start = start(l, read::image_index(l), f);
-    let end = start + wide_word(entry.size);
+    let end = start + usize::from(site.entry.size);
     Place {
-        rights,
-        entry,
-        at,
+        rights: site.rights,
+        entry: site.entry,
+        at: site.at,
         start,
         end,
     }

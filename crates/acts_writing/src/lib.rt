@@ -10,7 +10,7 @@ ghost use Rattle.acts.specs.Leaves.{Writes};
 ghost use Rattle.acts.specs.Ready.{Ready};
 
 use acts_stand::stand;
-use card::{Current, Session};
+use card::{Refused, Session};
 use commands::answers::{Reply, refusal};
 
 // Where the top stands in a file's entry.
@@ -21,14 +21,11 @@ pub fn update_binary(image: &mut [u8], s: Session, at: usize, new: &[u8]) -> Rep
     requires { Ready image.old s }
     ensures { Writes (λ r e b. update_binary r e b s at new.now) image.old s result image.new }
 {
-    let current = s.current;
-    let Current::File(f) = current else {
-        return refusal(s, 0x9400);
+    let Some(f) = s.current else {
+        return refusal(s, u16::from(Refused::NoFile));
     };
     let p = stand(image, s, f);
-    let start = p.start;
-    let end = p.end;
-    commands_binary::update_binary(p.rights, p.entry, &mut image[start..end], s, at, new)
+    commands_binary::update_binary(p.rights, p.entry, &mut image[p.start..p.end], s, at, new)
 }
 
 // A record becomes another; the top is written after it. Only this player's crates call it.
@@ -36,24 +33,20 @@ pub fn update_record(image: &mut [u8], s: Session, number: usize, mode: usize, n
     requires { Ready image.old s }
     ensures { Writes (λ r e b. update_record r e b s number mode new.now) image.old s result image.new }
 {
-    let current = s.current;
-    let Current::File(f) = current else {
-        return refusal(s, 0x9400);
+    let Some(f) = s.current else {
+        return refusal(s, u16::from(Refused::NoFile));
     };
     let p = stand(image, s, f);
-    let start = p.start;
-    let end = p.end;
     let w = commands_records::update_record(
         p.rights,
         p.entry,
-        &mut image[start..end],
+        &mut image[p.start..p.end],
         s,
         number,
         mode,
         new,
     );
-    let top = p.at + TOP;
-    image[top] = w.top;
+    image[p.at + TOP] = w.top;
     w.reply
 }
 
@@ -63,15 +56,11 @@ pub fn increase_by(image: &mut [u8], s: Session, added: &[u8]) -> Reply
     requires added_len { length added.now ≡ 3 }
     ensures { Writes (λ r e b. increase_by r e b s added.now) image.old s result image.new }
 {
-    let current = s.current;
-    let Current::File(f) = current else {
-        return refusal(s, 0x9400);
+    let Some(f) = s.current else {
+        return refusal(s, u16::from(Refused::NoFile));
     };
     let p = stand(image, s, f);
-    let start = p.start;
-    let end = p.end;
-    let w = commands_increase::increase_by(p.rights, p.entry, &mut image[start..end], s, added);
-    let top = p.at + TOP;
-    image[top] = w.top;
+    let w = commands_increase::increase_by(p.rights, p.entry, &mut image[p.start..p.end], s, added);
+    image[p.at + TOP] = w.top;
     w.reply
 }

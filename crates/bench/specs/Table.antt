@@ -1,20 +1,18 @@
 -- P1 to P12 of paper 01, one table under one statement: `Holds` of every row.
-use Rattle.std.specs.Prelude.{ℕ, ◌≡◌, List, [], ◌∷◌, map}
+use Rattle.std.specs.Prelude.{ℕ, ◌≡◌, List, [], ◌∷◌, map, Option, Some, None}
 use Rattle.card.specs.Sessions.{reset}
 use Rattle.card.specs.Play.{Outcome, run}
-use Rattle.card.specs.declared.Pointer.{Pointer}
-use Rattle.card.specs.declared.Pointer.TheVariants.{Undefined, At}
 use Rattle.codings.specs.Answers as coding
 use Rattle.codings.specs.Network as network
-use Rattle.codings.specs.declared.network.Plmn.{Plmn}
-use Rattle.codings.specs.declared.network.Plmn.TheVariants.{Network}
+use Rattle.codings.specs.Network.{plmn}
+use Rattle.codings.specs.declared.network.Network.{Network}
 use Rattle.bench.specs.CardK.{card_k, card_with}
 
 -- A row: an image, commands from a reset, and the exact responses; or the pointer after each command; or a PLMN entry and its bytes.
 pub data Row : Type 0 where
   answers : List ℕ → List (List ℕ) → List (List ℕ) → Row
-  points : List ℕ → List (List ℕ) → List Pointer → Row
-  codes : Plmn → List ℕ → Row
+  points : List ℕ → List (List ℕ) → List (Option ℕ) → Row
+  codes : Option Network → List ℕ → Row
 
 -- each command with room for 258 bytes
 abbrev pub played : List ℕ → List (List ℕ) → List Outcome
@@ -89,7 +87,7 @@ table =
     ∷ answers card_k
     (to_counter (increase 0 0 0x0a ∷ get_response 6 ∷ read_record 1 ∷ read_record 2 ∷ []))
     (at_counter (waits 0x06 ∷ (0 ∷ 0 ∷ 0x0f ∷ 0 ∷ 0 ∷ 0x0a ∷ done) ∷ (0 ∷ 0 ∷ 0x0f ∷ done) ∷ (0 ∷ 0 ∷ 5 ∷ done) ∷ []))
-    ∷ points card_k (to_counter (increase 0 0 0x0a ∷ [])) (Undefined ∷ Undefined ∷ At 1 ∷ At 1 ∷ [])
+    ∷ points card_k (to_counter (increase 0 0 0x0a ∷ [])) (None ∷ None ∷ Some 1 ∷ Some 1 ∷ [])
     -- P10: "from FFFFFF adding 000000 succeeds, adding 000001 is 9850"
     ∷ answers (card_with 0xff 0xff 0xff)
     (to_counter (increase 0 0 0 ∷ get_response 6 ∷ increase 0 0 1 ∷ read_record 1 ∷ []))
@@ -98,9 +96,9 @@ table =
     ∷ answers card_k
     (select_df ∷ select_ef 0x6f 0xe0 ∷ seek ∷ seek ∷ seek ∷ [])
     (waits 0x16 ∷ waits 0x0f ∷ done ∷ done ∷ (0x94 ∷ 0x04 ∷ []) ∷ [])
-    ∷ points card_k (select_df ∷ select_ef 0x6f 0xe0 ∷ seek ∷ seek ∷ seek ∷ []) (Undefined ∷ Undefined ∷ At 1 ∷ At 3 ∷ At 3 ∷ [])
+    ∷ points card_k (select_df ∷ select_ef 0x6f 0xe0 ∷ seek ∷ seek ∷ seek ∷ []) (None ∷ None ∷ Some 1 ∷ Some 3 ∷ Some 3 ∷ [])
     -- P12: "MCC 246, MNC 81 is 42F618"
-    ∷ codes (Network 246 81 2) (0x42 ∷ 0xf6 ∷ 0x18 ∷ [])
+    ∷ codes (plmn 246 81 2) (0x42 ∷ 0xf6 ∷ 0x18 ∷ [])
     ∷ []
 
 -- P1 to P12 hold of the definition.

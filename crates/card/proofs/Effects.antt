@@ -1,4 +1,5 @@
 -- Each command keeps the head sound, the number of the file's bytes, and a session that fits.
+use Rattle.std.specs.Prelude.{Some}
 use Prim.Native.Nat.{ℕ, ◌+◌, ◌-◌, ◌*◌, ◌%◌, ◌<◌, ◌≤◌}
 use mathlib.Core.Path.{◌≡◌, refl, sym, ap, ◌∙◌}
 use mathlib.Core.List.{List, [], ◌++◌}
@@ -21,8 +22,6 @@ use Rattle.card.specs.Forms.{both as these, formed, sent}
 use Rattle.card.specs.Play.{act, marks, writes, by_code, wanted}
 use Rattle.card.specs.declared.Rights.{Rights}
 use Rattle.card.specs.declared.Session.{Session}
-use Rattle.card.specs.declared.Current.TheVariants.{File}
-use Rattle.card.specs.declared.Pointer.TheVariants.{At}
 use Rattle.card.specs.declared.Act.TheVariants.{Update as updating, Increase as counting, Invalidate as invalidating, Rehabilitate as rehabilitating}
 use Rattle.card.specs.declared.Instruction.{Instruction}
 use Rattle.card.specs.declared.Instruction.TheVariants.{Select, Status, ReadBinary, UpdateBinary, ReadRecord, UpdateRecord, Seek, Increase, Verify, Change, Disable, Enable, Unblock, Invalidate, Rehabilitate, Sleep, GetResponse, Unknown}
@@ -48,7 +47,7 @@ record Changed (h : List ℕ) (m : Marked) : Type 0 where
   pub session : Fits h m.given.session
 
 -- The commands on a file.
-module _ (h b : List ℕ) (s : Session) (m : Ready h b s) (f : ℕ) (c : s.current ≡ File f) (r : Rights) where
+module _ (h b : List ℕ) (s : Session) (m : Ready h b s) (f : ℕ) (c : s.current ≡ Some f) (r : Rights) where
   abbrev W : Written → Type 0
   W w = Wrote h b f w
 
@@ -92,7 +91,7 @@ module _ (h b : List ℕ) (s : Session) (m : Ready h b s) (f : ℕ) (c : s.curre
         session = k;
       }
 
-  first_record : (t : Session) → Fits h t → t.current ≡ File f → cyclic (file h f) ≡ true → Fits h (points (At 1) t)
+  first_record : (t : Session) → Fits h t → t.current ≡ Some f → cyclic (file h f) ≡ true → Fits h (points (Some 1) t)
   first_record t g c' y =
       let z = cyclic_rows (file h f) y in
       pointing h b s m t g f 1 c' z (omega arith) ((rules h b s m f c).recorded z).some
@@ -152,11 +151,11 @@ module _ (h b : List ℕ) (s : Session) (m : Ready h b s) (f : ℕ) (c : s.curre
 
 -- Every command.
 module _ (h b : List ℕ) (s : Session) (m : Ready h b s) where
-  changed : (f : ℕ) → s.current ≡ File f → (w : Marked) → Changed h w → Keeps h b (marks h b f w)
+  changed : (f : ℕ) → s.current ≡ Some f → (w : Marked) → Changed h w → Keeps h b (marks h b f w)
   changed f c w k =
       record { head = kept_status h m.head f _ (here h b s m f c) k.status; contents = refl; session = k.session }
 
-  wrote : (f : ℕ) → s.current ≡ File f → (w : Written) → Wrote h b f w → Keeps h b (writes h b f w)
+  wrote : (f : ℕ) → s.current ≡ Some f → (w : Written) → Wrote h b f w → Keeps h b (writes h b f w)
   wrote f c w k =
       record { head = kept_top h m.head f _ (here h b s m f c) k.top; contents = k.contents; session = k.session }
 

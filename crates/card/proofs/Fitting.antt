@@ -1,4 +1,5 @@
 -- What it says that a session fits a head, by name, and which changes of the session keep that.
+use Rattle.std.specs.Prelude.{ℕ, Option, Some, None}
 use Prim.Native.Nat.{ℕ, ◌-◌, ◌<◌, ◌≤◌}
 use mathlib.Core.Path.{◌≡◌, refl, ap, ◌∙◌}
 use mathlib.Core.List.{List}
@@ -12,10 +13,6 @@ use Rattle.card.specs.Layout.{index, file}
 use Rattle.card.specs.Sessions.{pointed, stands, padded, fits, waits, points, enters, presents}
 use Rattle.card.specs.declared.Entry.{Entry}
 use Rattle.card.specs.declared.Session.{Session}
-use Rattle.card.specs.declared.Current.{Current}
-use Rattle.card.specs.declared.Current.TheVariants.{Nothing, File}
-use Rattle.card.specs.declared.Pointer.{Pointer}
-use Rattle.card.specs.declared.Pointer.TheVariants.{Undefined, At}
 use Rattle.card.proofs.Tests.{both, joint, same_self}
 use Rattle.card.proofs.Entries.{marked}
 use Rattle.card.proofs.Frames.{Same}
@@ -41,23 +38,23 @@ unfolding fits
 is_fitting h s r = joint (joint (lt-ltb _ _ r.directory) r.place) r.rest
 
 -- A current file is one of the directory's files, and the pointer stands within its records.
-pub record OnFile (h : List ℕ) (d f : ℕ) (p : Pointer) : Type 0 where
+pub record OnFile (h : List ℕ) (d f : ℕ) (p : Option ℕ) : Type 0 where
   pub exists : f < (index h).files
   pub home : (file h f).home ≡ d
   pub pointer : pointed (file h f) p ≡ true
 
-pub on-file : (h : List ℕ) (d f : ℕ) (p : Pointer) → stands h d (File f) p ≡ true → OnFile h d f p
+pub on-file : (h : List ℕ) (d f : ℕ) (p : Option ℕ) → stands h d (Some f) p ≡ true → OnFile h d f p
 unfolding stands
 on-file h d f p e =
     let a = both (ltb f (index h).files) _ e in
     let b = both (eqb (file h f).home d) _ a.1 in
     record { exists = ltb-true _ _ a.0; home = eqb-true _ _ b.0; pointer = b.1 }
 
-pub stands_file : (h : List ℕ) (d f : ℕ) (p : Pointer) → OnFile h d f p → stands h d (File f) p ≡ true
+pub stands_file : (h : List ℕ) (d f : ℕ) (p : Option ℕ) → OnFile h d f p → stands h d (Some f) p ≡ true
 unfolding stands
 stands_file h d f p r = joint (lt-ltb _ _ r.exists) (joint (eq-eqb _ _ r.home) r.pointer)
 
-pub stands_nothing : (h : List ℕ) (d : ℕ) → stands h d Nothing Undefined ≡ true
+pub stands_nothing : (h : List ℕ) (d : ℕ) → stands h d None None ≡ true
 unfolding stands
 stands_nothing h d = refl
 
@@ -74,10 +71,10 @@ module _ (h : List ℕ) (s : Session) (g : Fits h s) where
       }
 
   -- what is known of the current file
-  pub current_file : (f : ℕ) → s.current ≡ File f → OnFile h s.directory f s.pointer
+  pub current_file : (f : ℕ) → s.current ≡ Some f → OnFile h s.directory f s.pointer
   current_file f c = on-file h s.directory f s.pointer (rw c at g.place)
 
-  pub fits_points : (f : ℕ) (p : Pointer) → s.current ≡ File f → pointed (file h f) p ≡ true → Fits h (points p s)
+  pub fits_points : (f : ℕ) (p : Option ℕ) → s.current ≡ Some f → pointed (file h f) p ≡ true → Fits h (points p s)
   fits_points f p c e =
       let r = current_file f c in
       record {
@@ -89,22 +86,22 @@ module _ (h : List ℕ) (s : Session) (g : Fits h s) where
   pub fits_presents : (c : ℕ) → Fits h (presents c s)
   fits_presents c = record { directory = g.directory; place = g.place; rest = g.rest }
 
-  pub fits_enters : (d : ℕ) (c : Current) (p : Pointer) → d < (index h).directories → stands h d c p ≡ true → Fits h (enters d c p s)
+  pub fits_enters : (d : ℕ) (c : Option ℕ) (p : Option ℕ) → d < (index h).directories → stands h d c p ≡ true → Fits h (enters d c p s)
   fits_enters d c p n e = record { directory = n; place = e; rest = g.rest }
 
 -- a pointer goes neither by status nor by top
-pointed_marked : (e : Entry) (status top : ℕ) (p : Pointer) → pointed (marked e status top) p ≡ pointed e p
+pointed_marked : (e : Entry) (status top : ℕ) (p : Option ℕ) → pointed (marked e status top) p ≡ pointed e p
 unfolding pointed
-pointed_marked e status top Undefined = refl
-pointed_marked e status top (At n) = refl
+pointed_marked e status top None = refl
+pointed_marked e status top (Some n) = refl
 
 -- A session that fits a head fits one with the same entries.
 module _ {h h' : List ℕ} (m : Same h h') where
-  stands_same : (d : ℕ) (c : Current) (p : Pointer) → stands h d c p ≡ true → stands h' d c p ≡ true
+  stands_same : (d : ℕ) (c : Option ℕ) (p : Option ℕ) → stands h d c p ≡ true → stands h' d c p ≡ true
   unfolding stands
-  stands_same d Nothing Undefined e = refl
-  stands_same d Nothing (At n) e = e
-  stands_same d (File f) p e =
+  stands_same d None None e = refl
+  stands_same d None (Some n) e = e
+  stands_same d (Some f) p e =
       let r = on-file h d f p e in
       stands_file h' d f p
       (record {

@@ -11,6 +11,7 @@ pub mod Fitting
 -- The order of refusals, the form of a command, and the ways out of `play`.
 pub mod Refusals
 pub mod Forms
+pub mod Numbers
 pub mod Walk
 -- Refusals keep.
 pub mod Keeping

@@ -1,4 +1,5 @@
 -- Records and searches stay within their bounds.
+use Rattle.std.specs.Prelude.{ℕ, Option, Some, None}
 use Prim.Native.Nat.{ℕ, zero, suc, ◌+◌, ◌-◌, ◌<◌, ◌≤◌}
 use mathlib.Core.Path.{◌≡◌, refl, ap}
 use mathlib.Core.List.{List}
@@ -13,8 +14,6 @@ use Rattle.card.specs.Sessions.{pointed}
 use Rattle.card.specs.Records.{next, previous, current_record, chosen, record_at}
 use Rattle.card.specs.Seek.{matches, forward, backward, after, before, sought}
 use Rattle.card.specs.declared.Entry.{Entry}
-use Rattle.card.specs.declared.Pointer.{Pointer}
-use Rattle.card.specs.declared.Pointer.TheVariants.{Undefined, At}
 use Rattle.card.proofs.Tests.{both, joint, apart, Order, less, equal, more, order}
 use Rattle.card.proofs.Refusals.{choice}
 
@@ -71,38 +70,38 @@ record_in e k h =
     omega (arith, a, b)
 
 -- A pointer that fits stands within the records.
-pub pointer_le : (e : Entry) (p : Pointer) → pointed e p ≡ true → (k : ℕ) → p ≡ At k → k ≤ records e
+pub pointer_le : (e : Entry) (p : Option ℕ) → pointed e p ≡ true → (k : ℕ) → p ≡ Some k → k ≤ records e
 unfolding pointed
 pointer_le e p h k q = leb-true _ _ (both (not (transparent e) && ltb 0 k) (leb k (records e)) (rw q at h)).1
 
-pub pointer_fits : (e : Entry) (k : ℕ) → transparent e ≡ false → 0 < k → k ≤ records e → pointed e (At k) ≡ true
+pub pointer_fits : (e : Entry) (k : ℕ) → transparent e ≡ false → 0 < k → k ≤ records e → pointed e (Some k) ≡ true
 unfolding pointed
 pointer_fits e k t a b = joint (joint (ap not t) (lt-ltb _ _ a)) (le-leb _ _ b)
 
-pub pointer_none : (e : Entry) → pointed e Undefined ≡ true
+pub pointer_none : (e : Entry) → pointed e None ≡ true
 unfolding pointed
 pointer_none e = refl
 
 module _ (e : Entry) (some : 0 < records e) where
-  next_le : (p : Pointer) → next e p ≤ records e
-  next_le Undefined = some
-  next_le (At k) =
+  next_le : (p : Option ℕ) → next e p ≤ records e
+  next_le None = some
+  next_le (Some k) =
       choice (λ x. x ≤ records e) (ltb k (records e)) _ _ (λ t. let u = ltb-true k (records e) t in omega arith)
       (λ t. choice (λ x. x ≤ records e) (cyclic e) _ _ (λ c. some) (λ c. omega arith))
 
-  previous_le : (p : Pointer) → ((k : ℕ) → p ≡ At k → k ≤ records e) → previous e p ≤ records e
-  previous_le Undefined h = omega arith
-  previous_le (At k) h =
+  previous_le : (p : Option ℕ) → ((k : ℕ) → p ≡ Some k → k ≤ records e) → previous e p ≤ records e
+  previous_le None h = omega arith
+  previous_le (Some k) h =
       let n = h k refl in
       choice (λ x. x ≤ records e) (ltb 1 k) _ _ (λ t. omega arith)
       (λ t. choice (λ x. x ≤ records e) (cyclic e) _ _ (λ c. omega arith) (λ c. omega arith))
 
-  current_le : (p : Pointer) → ((k : ℕ) → p ≡ At k → k ≤ records e) → current_record p ≤ records e
-  current_le Undefined h = omega arith
-  current_le (At k) h = h k refl
+  current_le : (p : Option ℕ) → ((k : ℕ) → p ≡ Some k → k ≤ records e) → current_record p ≤ records e
+  current_le None h = omega arith
+  current_le (Some k) h = h k refl
 
   -- The record that a mode chooses is one of them.
-  pub chosen_le : (n mode : ℕ) (p : Pointer) → ((k : ℕ) → p ≡ At k → k ≤ records e) → chosen e n mode p ≤ records e
+  pub chosen_le : (n mode : ℕ) (p : Option ℕ) → ((k : ℕ) → p ≡ Some k → k ≤ records e) → chosen e n mode p ≤ records e
   unfolding chosen
   chosen_le n mode p h =
       choice (λ x. x ≤ records e) (eqb mode 2) _ _ (λ t. next_le p)
@@ -124,11 +123,11 @@ module _ (b : List ℕ) (m n : ℕ) (pattern : List ℕ) where
       let i = find from (λ i. matches b m pattern (from - i)) in
       choice (λ x. x ≤ n) (ltb i from) _ _ (λ t. omega arith) (λ t. omega arith)
 
-  before_le : (p : Pointer) → ((k : ℕ) → p ≡ At k → k ≤ n) → before n p ≤ n
-  before_le Undefined h = omega arith
-  before_le (At k) h = let u = h k refl in omega arith
+  before_le : (p : Option ℕ) → ((k : ℕ) → p ≡ Some k → k ≤ n) → before n p ≤ n
+  before_le None h = omega arith
+  before_le (Some k) h = let u = h k refl in omega arith
 
-  pub sought_le : (mode : ℕ) (p : Pointer) → ((k : ℕ) → p ≡ At k → k ≤ n) → sought b m n pattern mode p ≤ n
+  pub sought_le : (mode : ℕ) (p : Option ℕ) → ((k : ℕ) → p ≡ Some k → k ≤ n) → sought b m n pattern mode p ≤ n
   unfolding sought
   sought_le mode p h =
       choice (λ x. x ≤ n) (eqb mode 0) _ _ (λ t. forward_le 1)

@@ -1,4 +1,5 @@
 -- Always an answer, and refusals keep: from the commands to `play`.
+use Rattle.std.specs.Prelude.{ℕ, Option, Some, None}
 use Prim.Native.Nat.{ℕ, ◌+◌, ◌-◌, ◌*◌, ◌/◌, ◌%◌, ◌<◌, ◌≤◌}
 use mathlib.Core.Path.{◌≡◌, refl, sym, ap, ◌∙◌}
 use mathlib.Core.List.{List, [], ◌∷◌, ◌++◌}
@@ -17,8 +18,6 @@ use Rattle.card.specs.Forms.{instruction_of}
 use Rattle.card.specs.Play.{Outcome, told, opened, headed, filled, afterwards, done}
 use Rattle.card.specs.Demands.{Answered, AlwaysAnswered, status_word, carried_out, Lowered, Refused, Untouched, RefusalsKeep}
 use Rattle.card.specs.declared.Session.{Session}
-use Rattle.card.specs.declared.Current.{Current}
-use Rattle.card.specs.declared.Current.TheVariants.{Nothing, File}
 use Rattle.card.proofs.Tests.{apart}
 use Rattle.card.proofs.Parts.{splice_self}
 use Rattle.card.proofs.Frames.{placed}
@@ -54,10 +53,10 @@ word_of : (r : Reply) → status_word (response r) ≡ r.word
 word_of r = word_told r.bytes (r.word / 256) (r.word % 256) ∙ div-add-mod' r.word 256
 
 -- An image with its own head and its own bytes is itself, and with one byte of the head set it has that byte set.
-filled_self : (l : List ℕ) (c : Current) → filled l c (opened l c) ≡ l
+filled_self : (l : List ℕ) (c : Option ℕ) → filled l c (opened l c) ≡ l
 unfolding contents
-filled_self l Nothing = refl
-filled_self l (File f) = splice_self l (start l f) (file l f).size
+filled_self l None = refl
+filled_self l (Some f) = splice_self l (start l f) (file l f).size
 
 module _ (l : List ℕ) (m : Image l) where
   headed_self : headed l (head l) ≡ l

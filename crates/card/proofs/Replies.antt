@@ -1,4 +1,5 @@
 -- What a command finds and must keep; and each reply that leaves the card as it is has a session that fits.
+use Rattle.std.specs.Prelude.{Some, None}
 use Prim.Native.Nat.{ℕ, ◌+◌, ◌/◌, ◌%◌, ◌<◌, ◌≤◌}
 use mathlib.Core.Path.{◌≡◌, refl}
 use mathlib.Core.List.{List, [], ◌∷◌}
@@ -20,8 +21,6 @@ use Rattle.card.specs.Seek.{seek_record, sought}
 use Rattle.card.specs.declared.Entry.{Entry}
 use Rattle.card.specs.declared.Rights.{Rights}
 use Rattle.card.specs.declared.Session.{Session}
-use Rattle.card.specs.declared.Current.TheVariants.{Nothing, File}
-use Rattle.card.specs.declared.Pointer.TheVariants.{Undefined, At}
 use Rattle.card.specs.declared.Act.{Act}
 use Rattle.card.specs.declared.Act.TheVariants.{Read as reading, Seek as seeking}
 use Rattle.card.proofs.Tests.{both}
@@ -49,7 +48,7 @@ record_granted r e a suits k n p = (g.suits, eqb-true _ _ (not-false _ q.0), pos
 pub record Ready (h b : List ℕ) (s : Session) : Type 0 where
   pub head : SoundHead h
   pub fits : Fits h s
-  pub bytes : (f : ℕ) → s.current ≡ File f → length b ≡ (file h f).size
+  pub bytes : (f : ℕ) → s.current ≡ Some f → length b ≡ (file h f).size
 
 pub record Keeps (h b : List ℕ) (e : Effect) : Type 0 where
   pub head : Kept h e.head
@@ -64,10 +63,10 @@ module _ (h b : List ℕ) (s : Session) (m : Ready h b s) where
   pub dropped_fits : Fits h (dropped s)
   dropped_fits = fits_waits h s m.fits [] (omega arith)
 
-  pub here : (f : ℕ) → s.current ≡ File f → f < (index h).files
+  pub here : (f : ℕ) → s.current ≡ Some f → f < (index h).files
   here f c = (current_file h s m.fits f c).exists
 
-  pub rules : (f : ℕ) → s.current ≡ File f → SoundFile h f (file h f)
+  pub rules : (f : ℕ) → s.current ≡ Some f → SoundFile h f (file h f)
   rules f c = m.head.file f (here f c)
 
   -- a command that leaves head and bytes
@@ -77,30 +76,30 @@ module _ (h b : List ℕ) (s : Session) (m : Ready h b s) where
   pub refused : (w : ℕ) → Keeps h b (effect h b (refusal s w))
   refused w = stays (refusal s w) dropped_fits
 
-  pub pointing : (t : Session) → Fits h t → (f k : ℕ) → t.current ≡ File f → transparent (file h f) ≡ false → 0 < k → k ≤ records (file h f)
-      → Fits h (points (At k) t)
-  pointing t g f k c n a z = fits_points h t g f (At k) c (pointer_fits (file h f) k n a z)
+  pub pointing : (t : Session) → Fits h t → (f k : ℕ) → t.current ≡ Some f → transparent (file h f) ≡ false → 0 < k → k ≤ records (file h f)
+      → Fits h (points (Some k) t)
+  pointing t g f k c n a z = fits_points h t g f (Some k) c (pointer_fits (file h f) k n a z)
 
-  pub pointer_in : (f : ℕ) → s.current ≡ File f → (k : ℕ) → s.pointer ≡ At k → k ≤ records (file h f)
+  pub pointer_in : (f : ℕ) → s.current ≡ Some f → (k : ℕ) → s.pointer ≡ Some k → k ≤ records (file h f)
   pointer_in f c = pointer_le (file h f) s.pointer (current_file h s m.fits f c).pointer
 
-  directory_fits : (d : ℕ) → d < (index h).directories → Fits h (waits (directory_response h d) (enters d Nothing Undefined s))
+  directory_fits : (d : ℕ) → d < (index h).directories → Fits h (waits (directory_response h d) (enters d None None s))
   unfolding directory_response
   directory_fits d n =
-      fits_waits h _ (fits_enters h s m.fits d Nothing Undefined n (stands_nothing h d)) (directory_response h d) (omega arith)
+      fits_waits h _ (fits_enters h s m.fits d None None n (stands_nothing h d)) (directory_response h d) (omega arith)
 
   first_fits : (f : ℕ) → f < (index h).files → pointed (file h f) (first_pointer (file h f)) ≡ true
   first_fits f n =
-      choice (λ p. pointed (file h f) p ≡ true) (cyclic (file h f)) (At 1) Undefined
+      choice (λ p. pointed (file h f) p ≡ true) (cyclic (file h f)) (Some 1) None
       (λ c. let t = cyclic_rows (file h f) c in pointer_fits (file h f) 1 t (omega arith) ((m.head.file f n).recorded t).some)
       (λ c. pointer_none (file h f))
 
   file_fits : (f : ℕ) → f < (index h).files → (file h f).home ≡ s.directory
-      → Fits h (waits (file_response (file h f)) (enters s.directory (File f) (first_pointer (file h f)) s))
+      → Fits h (waits (file_response (file h f)) (enters s.directory (Some f) (first_pointer (file h f)) s))
   unfolding file_response
   file_fits f n u =
       fits_waits h _
-      (fits_enters h s m.fits s.directory (File f) _ m.fits.directory
+      (fits_enters h s m.fits s.directory (Some f) _ m.fits.directory
       (stands_file h s.directory f _ (record { exists = n; home = u; pointer = first_fits f n })))
       (file_response (file h f)) (omega arith)
 
@@ -131,7 +130,7 @@ module _ (h b : List ℕ) (s : Session) (m : Ready h b s) where
       (λ t. choice (Told h) (eqb n 0 || ltb s.count n) _ _ (λ u. m.fits) (λ u. dropped_fits))
 
   -- A command on the current file.
-  module _ (f : ℕ) (c : s.current ≡ File f) (r : Rights) where
+  module _ (f : ℕ) (c : s.current ≡ Some f) (r : Rights) where
     pub read_binary_fits : (at n : ℕ) → Told h (read_binary r (file h f) b s at n)
     unfolding read_binary
     read_binary_fits at n = guarded (Told h) (read_binary r (file h f) b s at n) _ _ _ refl (λ w. dropped_fits) (λ p. dropped_fits)
@@ -162,8 +161,8 @@ module _ (h b : List ℕ) (s : Session) (m : Ready h b s) where
             ≡ 0
             → Told h
             (elim (eqb (mode / 16) 0) [
-              | true ↦ reply [] 0x9000 (points (At found) (dropped s))
-              | false ↦ reply [] 0x9f01 (waits (found ∷ []) (points (At found) s))
+              | true ↦ reply [] 0x9000 (points (Some found) (dropped s))
+              | false ↦ reply [] 0x9f01 (waits (found ∷ []) (points (Some found) s))
             ])
         go p =
             let g = granted r (file h f) seeking (linear (file h f)) _ p in

@@ -1,4 +1,5 @@
 -- At most one entry answers a SELECT, and SELECT enters it.
+use Rattle.std.specs.Prelude.{Some}
 use Prim.Native.Nat.{ℕ, ◌/◌, ◌%◌, ◌<◌}
 use mathlib.Core.Path.{◌≡◌, refl, sym, ap, ◌∙◌}
 use mathlib.Core.List.{List}
@@ -13,7 +14,6 @@ use Rattle.card.specs.Select.{leads, named, find_directory, find_file, select}
 use Rattle.card.specs.Answers.{Reply}
 use Rattle.card.specs.Demands.{Target, to_directory, to_file, Selects, OneAnswer, Entered, SelectEnters}
 use Rattle.card.specs.declared.Entry.{Entry}
-use Rattle.card.specs.declared.Current.TheVariants.{File}
 use Rattle.card.proofs.Tests.{both, joint, apart, Order, less, equal, more, order}
 use Rattle.card.proofs.Images.{image}
 use Rattle.card.proofs.Heads.{head_sound}
@@ -108,5 +108,5 @@ select_enters l s id t i g p = go t p
         let u = ltb-true _ _ t in
         absurd (never_both (head l) m s.directory id _ f u q.0 (found_leads (head l) m s.directory id u) q.1))
         (λ t.
-        choice (λ (r : Reply). Entered (to_file f) r.session) (ltb (find_file (head l) s.directory id) (index (head l)).files) _ _ (λ u. ap File e)
+        choice (λ (r : Reply). Entered (to_file f) r.session) (ltb (find_file (head l) s.directory id) (index (head l)).files) _ _ (λ u. ap Some e)
         (λ u. let v = ltb-false (find_file (head l) s.directory id) (index (head l)).files u in let w = q.0 in absurd (omega (arith, v, w, e))))

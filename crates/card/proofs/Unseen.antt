@@ -1,4 +1,5 @@
 -- What stands in a file that may be neither read nor increased does not show.
+use Rattle.std.specs.Prelude.{ℕ, Option, Some, None}
 use Prim.Native.Nat.{ℕ}
 use mathlib.Core.Path.{◌≡◌, refl, sym, ap, subst}
 use mathlib.Core.List.{List, [], ◌∷◌}
@@ -19,8 +20,6 @@ use Rattle.card.specs.Play.{act, opened, headed, filled, done, perform_as, perfo
 use Rattle.card.specs.Demands.{Apart, Shut, ShutThrough, Indistinct, Throughout, HiddenStep, HiddenRun, Hidden}
 use Rattle.card.specs.declared.Entry.{Entry}
 use Rattle.card.specs.declared.Session.{Session}
-use Rattle.card.specs.declared.Current.{Current}
-use Rattle.card.specs.declared.Current.TheVariants.{Nothing, File}
 use Rattle.card.specs.declared.Instruction.{Instruction}
 use Rattle.card.proofs.Tests.{decided}
 use Rattle.card.proofs.Images.{image}
@@ -42,7 +41,7 @@ module _ (X : ℕ → Bool) (l l' : List ℕ) (s : Session) (a : Apart X l l') (
   g' = rw (← same_head X l l' a) g
 
   -- the current file is closed, or its bytes are the same
-  closed : (f : ℕ) → s.current ≡ File f → X f ≡ true → Sealed (rights (head l) s) (file (head l) f)
+  closed : (f : ℕ) → s.current ≡ Some f → X f ≡ true → Sealed (rights (head l) s) (file (head l) f)
   closed f c x =
       let i = here_in l m s g f c in
       subst (λ (e : Entry). Sealed (rights (head l) s) e) (sym (file_head l f i))
@@ -55,14 +54,14 @@ module _ (X : ℕ → Bool) (l l' : List ℕ) (s : Session) (a : Apart X l l') (
     e' : Effect
     e' = act i (head l) (opened l' s.current) s p q n d
 
-    case : ((f : ℕ) → s.current ≡ File f → X f ≡ true) ⊎ (opened l s.current ≡ opened l' s.current)
+    case : ((f : ℕ) → s.current ≡ Some f → X f ≡ true) ⊎ (opened l s.current ≡ opened l' s.current)
     case = go s.current refl
       where
-        go : (c : Current) → s.current ≡ c → ((f : ℕ) → s.current ≡ File f → X f ≡ true) ⊎ (opened l s.current ≡ opened l' s.current)
-        go Nothing c = inr (rw c refl)
-        go (File f) c = pick (decided (X f))
+        go : (c : Option ℕ) → s.current ≡ c → ((f : ℕ) → s.current ≡ Some f → X f ≡ true) ⊎ (opened l s.current ≡ opened l' s.current)
+        go None c = inr (rw c refl)
+        go (Some f) c = pick (decided (X f))
           where
-            pick : (X f ≡ true) ⊎ (X f ≡ false) → ((f : ℕ) → s.current ≡ File f → X f ≡ true) ⊎ (opened l s.current ≡ opened l' s.current)
+            pick : (X f ≡ true) ⊎ (X f ≡ false) → ((f : ℕ) → s.current ≡ Some f → X f ≡ true) ⊎ (opened l s.current ≡ opened l' s.current)
             pick (inl x) = inl (λ k w. let y : f ≡ k = cc in rw (← y) x)
             pick (inr x) = inr (rw c (same_contents X l l' a f (here_in l m s g f c) x m m'))
 
@@ -89,7 +88,7 @@ module _ (X : ℕ → Bool) (l l' : List ℕ) (s : Session) (a : Apart X l l') (
         blindly : Alike e e'
         blindly = go case
           where
-            go : ((f : ℕ) → s.current ≡ File f → X f ≡ true) ⊎ (opened l s.current ≡ opened l' s.current) → Alike e e'
+            go : ((f : ℕ) → s.current ≡ Some f → X f ≡ true) ⊎ (opened l s.current ≡ opened l' s.current) → Alike e e'
             go (inl x) = blind (head l) _ _ s (λ f c. closed f c (x f c)) i p q n d
             go (inr y) =
                 record {
@@ -97,8 +96,8 @@ module _ (X : ℕ → Bool) (l l' : List ℕ) (s : Session) (a : Apart X l l') (
                   head = ap (λ b. (act i (head l) b s p q n d).head) y;
                 }
 
-        differ : (f : ℕ) → s.current ≡ File f
-            → ((f : ℕ) → s.current ≡ File f → X f ≡ true) ⊎ (opened l s.current ≡ opened l' s.current)
+        differ : (f : ℕ) → s.current ≡ Some f
+            → ((f : ℕ) → s.current ≡ Some f → X f ≡ true) ⊎ (opened l s.current ≡ opened l' s.current)
             → (X f ≡ true) ⊎ (e.contents ≡ e'.contents)
         differ f c (inl x) = inl (x f c)
         differ f c (inr y) = inr (ap (λ b. (act i (head l) b s p q n d).contents) y)

@@ -1,13 +1,11 @@
 -- Paper 01, "Access halves" and "Invalidation", and the refusals that every command on an EF shares, in their order: "94 00 no EF;
 -- 94 08 structure; 98 10 invalidation; 98 04 access".
-use Rattle.std.specs.Prelude.{ℕ, ◌/◌, ◌%◌, List, ◌∷◌, Bool, ◌&&◌, ◌||◌, not, eqb, ltb}
+use Rattle.std.specs.Prelude.{ℕ, ◌/◌, ◌%◌, List, ◌∷◌, Bool, ◌&&◌, ◌||◌, not, eqb, ltb, Option, Some, None}
 use Rattle.card.specs.Layout.{code, file, disabled}
 use Rattle.card.specs.Answers.{Refusal, ◌says◌}
 use Rattle.card.specs.declared.Entry.{Entry}
 use Rattle.card.specs.declared.Session.{Session}
 use Rattle.card.specs.declared.Rights.{Rights}
-use Rattle.card.specs.declared.Current.{Current}
-use Rattle.card.specs.declared.Current.TheVariants.{Nothing, File}
 use Rattle.card.specs.declared.Act.{Act}
 use Rattle.card.specs.declared.Act.TheVariants.{Read, Seek, Update, Increase, Rehabilitate, Invalidate}
 
@@ -59,6 +57,6 @@ shared r e a suits more =
     not suits says 0x9408 ∷ barred e a says 0x9810 ∷ not (allowed r e a) says 0x9804 ∷ more
 
 -- a command on the current file, by the file's number and its entry; "94 00 no EF" stands before all else
-abbrev pub on_file : {A : Type 0} → List ℕ → Current → (ℕ → A) → (ℕ → Entry → A) → A
-on_file h Nothing refuse act = refuse 0x9400
-on_file h (File f) refuse act = act f (file h f)
+abbrev pub on_file : {A : Type 0} → List ℕ → Option ℕ → (ℕ → A) → (ℕ → Entry → A) → A
+on_file h None refuse act = refuse 0x9400
+on_file h (Some f) refuse act = act f (file h f)

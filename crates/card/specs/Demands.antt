@@ -1,6 +1,6 @@
 -- What was asked of the player, as statements about the definition. Each is a type with a name, and its proof in proofs/ has that name
 -- with a small letter. The player's functions are proved to do what the definition says, so what holds of the definition holds of them.
-use Rattle.std.specs.Prelude.{ℕ, ◌+◌, ◌-◌, ◌/◌, ◌<◌, ◌≤◌, ◌≡◌, List, [], ◌∷◌, Bool, true, false, ◌||◌, ◌⊎◌, eqb, length, set}
+use Rattle.std.specs.Prelude.{ℕ, ◌+◌, ◌-◌, ◌/◌, ◌<◌, ◌≤◌, ◌≡◌, List, [], ◌∷◌, Bool, true, false, ◌||◌, ◌⊎◌, eqb, length, set, Some, None}
 use Rattle.card.specs.Bytes.{byte, word, part}
 use Rattle.card.specs.Layout.{index, code_at, directory, file, start, head, counter}
 use Rattle.card.specs.Shelf.{is_image}
@@ -13,7 +13,6 @@ use Rattle.card.specs.Play.{Outcome, play, run}
 use Rattle.card.specs.declared.Instruction.{Instruction}
 use Rattle.card.specs.declared.Instruction.TheVariants.{Verify, Change, Disable, Enable, Unblock}
 use Rattle.card.specs.declared.Session.{Session}
-use Rattle.card.specs.declared.Current.TheVariants.{Nothing, File}
 use Rattle.card.specs.declared.Act.TheVariants.{Read, Increase}
 
 -- 1. ALWAYS AN ANSWER. That every command gets an answer, whatever bytes are handed over, is proved by the language itself and not here:
@@ -176,8 +175,8 @@ OneAnswer =
     → t ≡ t'
 
 abbrev pub Entered : Target → Session → Type 0
-Entered (to_directory d) s = (s.directory ≡ d) × (s.current ≡ Nothing)
-Entered (to_file f) s = s.current ≡ File f
+Entered (to_directory d) s = (s.directory ≡ d) × (s.current ≡ None)
+Entered (to_file f) s = s.current ≡ Some f
 
 abbrev pub SelectEnters : Type 0
 SelectEnters =

@@ -3,6 +3,7 @@ pub mod Layout
 pub mod Shelf
 pub mod Sessions
 pub mod Answers
+pub mod Refused
 pub mod Forms
 pub mod Select
 pub mod Access

@@ -2,7 +2,7 @@
 --
 -- A command sees the head of the image, which is all before the files' bytes, the bytes of the current file, and the session. What
 -- decides goes by the head; only READ, SEEK and INCREASE look at the bytes, after their right to.
-use Rattle.std.specs.Prelude.{ℕ, ◌+◌, ◌-◌, ◌*◌, ◌/◌, List, [], ◌∷◌, ◌++◌, true, false, length, drop, set, eqb, ltb}
+use Rattle.std.specs.Prelude.{ℕ, ◌+◌, ◌-◌, ◌*◌, ◌/◌, List, [], ◌∷◌, ◌++◌, true, false, length, drop, set, eqb, ltb, Option, Some, None}
 use Rattle.card.specs.Bytes.{byte, word, part, splice}
 use Rattle.card.specs.Layout.{index, code_at, file, head, contents, start, status_at, top_at}
 use Rattle.card.specs.Shelf.{is_image}
@@ -22,8 +22,6 @@ use Rattle.card.specs.declared.Answer.TheVariants.{Played, NotAnImage, DoesNotFi
 use Rattle.card.specs.declared.Session.{Session}
 use Rattle.card.specs.declared.Entry.{Entry}
 use Rattle.card.specs.declared.Rights.{Rights}
-use Rattle.card.specs.declared.Current.{Current}
-use Rattle.card.specs.declared.Current.TheVariants.{Nothing, File}
 use Rattle.card.specs.declared.Instruction.{Instruction}
 use Rattle.card.specs.declared.Instruction.TheVariants.{Select, Status, ReadBinary, UpdateBinary, ReadRecord, UpdateRecord, Seek, Increase, Verify, Change, Disable, Enable, Unblock, Invalidate, Rehabilitate, Sleep, GetResponse, Unknown}
 
@@ -90,25 +88,25 @@ act GetResponse h b s p q n d = leaves h b (get_response s n)
 act Unknown h b s p q n d = leaves h b (refusal s 0x6d00)
 
 -- the current file's bytes; an image with another head, and with other bytes in the current file
-abbrev pub opened : List ℕ → Current → List ℕ
-opened l Nothing = []
-opened l (File f) = contents l f
+abbrev pub opened : List ℕ → Option ℕ → List ℕ
+opened l None = []
+opened l (Some f) = contents l f
 
 abbrev pub headed : List ℕ → List ℕ → List ℕ
 headed l h = h ++ drop (length h) l
 
-abbrev pub filled : List ℕ → Current → List ℕ → List ℕ
-filled l Nothing b = l
-filled l (File f) b = splice l (start l f) (file l f).size b
+abbrev pub filled : List ℕ → Option ℕ → List ℕ → List ℕ
+filled l None b = l
+filled l (Some f) b = splice l (start l f) (file l f).size b
 
 abbrev pub told : List ℕ → Reply → Outcome
 told l r = record { host = number Played; response = response r; image = l; session = r.session }
 
 -- the image after a command's effect, and the outcome
-abbrev pub afterwards : List ℕ → Current → Effect → List ℕ
+abbrev pub afterwards : List ℕ → Option ℕ → Effect → List ℕ
 afterwards l c e = headed (filled l c e.contents) e.head
 
-abbrev pub done : List ℕ → Current → Effect → Outcome
+abbrev pub done : List ℕ → Option ℕ → Effect → Outcome
 done l c e = told (afterwards l c e) e.given
 
 -- "6E 00 class", which leaves the waiting response; the command's form; "host 4"; and then the command itself. "The data handed on is the

@@ -1,6 +1,6 @@
 -- Paper 01, "SEEK (linear)": "P2 high half 0 or 1, low half 0 forward from the first, 1 backward from the last, 2 forward from after the
 -- pointer, 3 backward from before it; while undefined, 2 and 3 act as 0 and 1."
-use Rattle.std.specs.Prelude.{ℕ, ◌+◌, ◌-◌, ◌*◌, ◌/◌, ◌%◌, List, [], ◌∷◌, Bool, true, false, length, eqb, ltb}
+use Rattle.std.specs.Prelude.{ℕ, ◌+◌, ◌-◌, ◌*◌, ◌/◌, ◌%◌, List, [], ◌∷◌, Bool, true, false, length, eqb, ltb, Option, Some, None}
 use Rattle.card.specs.Bytes.{part, find, same}
 use Rattle.card.specs.Layout.{records, linear}
 use Rattle.card.specs.Access.{shared}
@@ -10,8 +10,6 @@ use Rattle.card.specs.declared.Entry.{Entry}
 use Rattle.card.specs.declared.Rights.{Rights}
 use Rattle.card.specs.declared.Session.{Session}
 use Rattle.card.specs.declared.Act.TheVariants.{Seek}
-use Rattle.card.specs.declared.Pointer.{Pointer}
-use Rattle.card.specs.declared.Pointer.TheVariants.{Undefined, At}
 
 -- "A record matches if it starts with the pattern": record k of the bytes, records of m bytes
 abbrev pub matches : List ℕ → ℕ → List ℕ → ℕ → Bool
@@ -29,16 +27,16 @@ backward b m pattern from =
     let i = find from (λ i. matches b m pattern (from - i)) in
     elim (ltb i from) [ true ↦ from - i | false ↦ 0 ]
 
-abbrev pub after : Pointer → ℕ
-after Undefined = 1
-after (At k) = k + 1
+abbrev pub after : Option ℕ → ℕ
+after None = 1
+after (Some k) = k + 1
 
-abbrev pub before : ℕ → Pointer → ℕ
-before n Undefined = n
-before n (At k) = k - 1
+abbrev pub before : ℕ → Option ℕ → ℕ
+before n None = n
+before n (Some k) = k - 1
 
 -- the record that a mode finds among n, and 0 where none matches
-unfoldable pub sought : List ℕ → ℕ → ℕ → List ℕ → ℕ → Pointer → ℕ
+unfoldable pub sought : List ℕ → ℕ → ℕ → List ℕ → ℕ → Option ℕ → ℕ
 sought b m n pattern mode p =
     elim (eqb mode 0) [
       | true ↦ forward b m pattern 1 n
@@ -58,6 +56,6 @@ seek_record r e b s mode pattern =
     (shared r e Seek (linear e) (ltb e.width (length pattern) says (0x6700 + e.width) ∷ eqb k 0 says 0x9404 ∷ []))
     (refusal s)
     (elim (eqb (mode / 16) 0) [
-      | true ↦ reply [] 0x9000 (points (At k) (dropped s))
-      | false ↦ reply [] 0x9f01 (waits (k ∷ []) (points (At k) s))
+      | true ↦ reply [] 0x9000 (points (Some k) (dropped s))
+      | false ↦ reply [] 0x9f01 (waits (k ∷ []) (points (Some k) s))
     ])

@@ -1,5 +1,5 @@
 -- Paper 01, "SELECT", "STATUS" and "GET RESPONSE".
-use Rattle.std.specs.Prelude.{ℕ, ◌+◌, ◌/◌, ◌%◌, List, [], ◌∷◌, Bool, true, false, ◌&&◌, ◌||◌, not, take, eqb, ltb}
+use Rattle.std.specs.Prelude.{ℕ, ◌+◌, ◌/◌, ◌%◌, List, [], ◌∷◌, Bool, true, false, ◌&&◌, ◌||◌, not, take, eqb, ltb, Option, Some, None}
 use Rattle.card.specs.Bytes.{find, how_many}
 use Rattle.card.specs.Layout.{index, code, directory, file, initialised, unblock_initialised, disabled, cyclic}
 use Rattle.card.specs.Sessions.{waits, enters, dropped}
@@ -8,9 +8,6 @@ use Rattle.card.specs.declared.Code.{Code}
 use Rattle.card.specs.declared.Directory.{Directory}
 use Rattle.card.specs.declared.Entry.{Entry}
 use Rattle.card.specs.declared.Session.{Session}
-use Rattle.card.specs.declared.Current.TheVariants.{Nothing, File}
-use Rattle.card.specs.declared.Pointer.{Pointer}
-use Rattle.card.specs.declared.Pointer.TheVariants.{Undefined, At}
 
 abbrev pub b8 : Bool → ℕ
 b8 true = 0x80
@@ -70,8 +67,8 @@ unfoldable pub named : ℕ → ℕ → Entry → Bool
 named here id e = eqb e.home here && eqb e.identifier id
 
 -- "the pointer becomes undefined, or 1 on a cyclic file"
-abbrev pub first_pointer : Entry → Pointer
-first_pointer e = elim (cyclic e) [ true ↦ At 1 | false ↦ Undefined ]
+abbrev pub first_pointer : Entry → Option ℕ
+first_pointer e = elim (cyclic e) [ true ↦ Some 1 | false ↦ None ]
 
 -- the number of the directory that an identifier selects, and of the file; the section's count where there is none
 unfoldable pub find_directory : List ℕ → ℕ → ℕ → ℕ
@@ -86,10 +83,10 @@ select h s id =
     let d = find_directory h s.directory id in
     let f = find_file h s.directory id in
     elim (ltb d (index h).directories) [
-      | true ↦ reply [] 0x9f16 (waits (directory_response h d) (enters d Nothing Undefined s))
+      | true ↦ reply [] 0x9f16 (waits (directory_response h d) (enters d None None s))
       | false ↦
           elim (ltb f (index h).files) [
-            | true ↦ reply [] 0x9f0f (waits (file_response (file h f)) (enters s.directory (File f) (first_pointer (file h f)) s))
+            | true ↦ reply [] 0x9f0f (waits (file_response (file h f)) (enters s.directory (Some f) (first_pointer (file h f)) s))
             | false ↦ refusal s 0x9404
           ]
     ]

@@ -1,31 +1,27 @@
 -- Paper 01, "The session": "the current directory; the current EF or none; the record pointer, either undefined or a record number;
 -- one presented mark each for CHV1 and CHV2; a waiting response of 0 to 22 bytes in an array of 22." Reset, which sessions fit an
 -- image, and the few ways in which a command changes one.
-use Rattle.std.specs.Prelude.{ℕ, ◌-◌, List, [], ◌++◌, Bool, true, false, ◌&&◌, ◌||◌, not, length, drop, replicate, eqb, leb, ltb}
+use Rattle.std.specs.Prelude.{ℕ, ◌-◌, List, [], ◌++◌, Bool, true, false, ◌&&◌, ◌||◌, not, length, drop, replicate, eqb, leb, ltb, Option, Some, None}
 use Rattle.card.specs.Bytes.{same}
 use Rattle.card.specs.Layout.{index, file, transparent, records}
 use Rattle.card.specs.declared.Entry.{Entry}
 use Rattle.card.specs.declared.Session.{Session}
-use Rattle.card.specs.declared.Current.{Current}
-use Rattle.card.specs.declared.Current.TheVariants.{Nothing, File}
-use Rattle.card.specs.declared.Pointer.{Pointer}
-use Rattle.card.specs.declared.Pointer.TheVariants.{Undefined, At}
 
 -- "Reset gives: master file, no EF, undefined, no marks, nothing waiting."
 abbrev pub reset : Session
 reset =
-    record { directory = 0; current = Nothing; pointer = Undefined; chv1 = false; chv2 = false; waiting = replicate 22 0; count = 0 }
+    record { directory = 0; current = None; pointer = None; chv1 = false; chv2 = false; waiting = replicate 22 0; count = 0 }
 
 -- "a pointer stands only on a file with records and within them"
-unfoldable pub pointed : Entry → Pointer → Bool
-pointed e Undefined = true
-pointed e (At n) = not (transparent e) && ltb 0 n && leb n (records e)
+unfoldable pub pointed : Entry → Option ℕ → Bool
+pointed e None = true
+pointed e (Some n) = not (transparent e) && ltb 0 n && leb n (records e)
 
 -- "the EF lies in it": in directory d; without an EF there is no pointer
-unfoldable pub stands : List ℕ → ℕ → Current → Pointer → Bool
-stands h d Nothing Undefined = true
-stands h d Nothing (At n) = false
-stands h d (File f) p = ltb f (index h).files && (eqb (file h f).home d && pointed (file h f) p)
+unfoldable pub stands : List ℕ → ℕ → Option ℕ → Option ℕ → Bool
+stands h d None None = true
+stands h d None (Some n) = false
+stands h d (Some f) p = ltb f (index h).files && (eqb (file h f).home d && pointed (file h f) p)
 
 -- "the response count is at most 22 and the rest is zero"
 unfoldable pub padded : List ℕ → ℕ → Bool
@@ -56,7 +52,7 @@ abbrev pub dropped : Session → Session
 dropped s = waits [] s
 
 -- the pointer moves
-abbrev pub points : Pointer → Session → Session
+abbrev pub points : Option ℕ → Session → Session
 points p s =
     record {
       directory = s.directory;
@@ -69,7 +65,7 @@ points p s =
     }
 
 -- another directory, EF and pointer
-abbrev pub enters : ℕ → Current → Pointer → Session → Session
+abbrev pub enters : ℕ → Option ℕ → Option ℕ → Session → Session
 enters d c p s =
     record {
       directory = d;

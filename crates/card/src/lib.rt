@@ -1,8 +1,10 @@
 // The values that the player and its callers share. What they mean is the definition, in specs/.
 #![tactic(auto)]
 
-// The host's answer to a command; `number` of the definition gives the paper's number.
-#[derive(Clone, Copy)]
+mod conversions;
+
+// The host's answer to a command; `u8::from` gives its number.
+#[derive(Clone, Copy, Debug, PartialEq, Eq)]
 pub enum Answer {
     Played,
     NotAnImage,
@@ -11,26 +13,33 @@ pub enum Answer {
     WrongLength,
 }
 
-// The record pointer.
-#[derive(Clone, Copy)]
-pub enum Pointer {
-    Undefined,
-    At(usize),
+// Why a command is refused; `u16::from` gives the status word.
+#[derive(Clone, Copy, Debug, PartialEq, Eq)]
+pub enum Refused {
+    NoFile,
+    OutOfRange,
+    NotFound,
+    Unsuited,
+    NotInitialised,
+    NotAllowed,
+    Contradicted,
+    Invalidated,
+    Blocked,
+    Overflow,
+    Length(u8),
+    Parameters,
+    Instruction,
+    NothingWaits,
 }
 
-// The current elementary file, by its number in the image.
-#[derive(Clone, Copy)]
-pub enum Current {
-    Nothing,
-    File(usize),
-}
-
-// What a card remembers between two commands.
-#[derive(Clone, Copy)]
+// What a card remembers between two commands: the current elementary file by its number in the image, or none; and the record pointer, a
+// record's number or undefined. The bytes that wait and their count are no type with an invariant: a host may hand in any, and `fits` of the
+// definition says which fit.
+#[derive(Clone, Copy, Debug, PartialEq, Eq)]
 pub struct Session {
     pub directory: usize,
-    pub current: Current,
-    pub pointer: Pointer,
+    pub current: Option<usize>,
+    pub pointer: Option<usize>,
     pub chv1: bool,
     pub chv2: bool,
     pub waiting: [u8; 22],
@@ -38,7 +47,7 @@ pub struct Session {
 }
 
 // How many entries the sections of an image have, and where the first of each stands.
-#[derive(Clone, Copy)]
+#[derive(Clone, Copy, Debug, PartialEq, Eq)]
 pub struct Index {
     pub codes: usize,
     pub directories: usize,
@@ -49,7 +58,7 @@ pub struct Index {
 }
 
 // A code's entry, but for the two codes.
-#[derive(Clone, Copy)]
+#[derive(Clone, Copy, Debug, PartialEq, Eq)]
 pub struct Code {
     pub flags: u8,
     pub attempts: u8,
@@ -58,7 +67,7 @@ pub struct Code {
 }
 
 // A directory's entry.
-#[derive(Clone, Copy)]
+#[derive(Clone, Copy, Debug, PartialEq, Eq)]
 pub struct Directory {
     pub identifier: u16,
     pub parent: u8,
@@ -69,7 +78,7 @@ pub struct Directory {
 }
 
 // A file's entry: `home` is the number of its directory, `width` its record length.
-#[derive(Clone, Copy)]
+#[derive(Clone, Copy, Debug, PartialEq, Eq)]
 pub struct Entry {
     pub identifier: u16,
     pub home: u8,
@@ -86,14 +95,14 @@ pub struct Entry {
 }
 
 // Which of access levels 1 and 2 the codes and the session fulfil.
-#[derive(Clone, Copy)]
+#[derive(Clone, Copy, Debug, PartialEq, Eq)]
 pub struct Rights {
     pub level1: bool,
     pub level2: bool,
 }
 
 // What is done to a file.
-#[derive(Clone, Copy)]
+#[derive(Clone, Copy, Debug, PartialEq, Eq)]
 pub enum Act {
     Read,
     Seek,
@@ -104,7 +113,7 @@ pub enum Act {
 }
 
 // The commands of the interface.
-#[derive(Clone, Copy)]
+#[derive(Clone, Copy, Debug, PartialEq, Eq)]
 pub enum Instruction {
     Select,
     Status,

@@ -1,3 +1,1 @@
-pub mod Choice
-pub mod Words
 pub mod Lengths

@@ -1,28 +1,27 @@
 -- Values as bytes: digits one byte each; a service's number in 4 bytes, its state in 1; the byte of b1 and b2, then the name;
 -- mode, MNC length (0 absent). Bytes of a length that the kind does not take are read as a value outside the coding.
-use Rattle.std.specs.Prelude.{ℕ, ◌+◌, ◌*◌, ◌/◌, ◌%◌, List, [], ◌∷◌, false, ◌&&◌, eqb, ltb, leb, length, get_or, drop}
+use Rattle.std.specs.Prelude.{ℕ, ◌+◌, ◌*◌, ◌/◌, ◌%◌, List, [], ◌∷◌, false, ◌&&◌, eqb, ltb, leb, length, get_or, drop, Option, Some, None}
 use Rattle.fields.specs.Text.{lead}
 use Rattle.cases.specs.Choice.{choose}
-use Rattle.codings.specs.Spn.{Provider, provider, bits}
-use Rattle.codings.specs.Admin.{Setting}
-use Rattle.codings.specs.declared.network.Plmn.{Plmn}
-use Rattle.codings.specs.declared.network.Plmn.TheVariants.{Unused, Network}
+use Rattle.codings.specs.Spn.{provider, bits}
+use Rattle.codings.specs.Network.{plmn}
+use Rattle.codings.specs.declared.admin.Setting.{Setting}
+use Rattle.codings.specs.declared.network.Network.{Network}
 use Rattle.codings.specs.declared.services.Service.{Service}
 use Rattle.codings.specs.declared.services.Service.TheVariants.{NotAllocated, Allocated, Activated}
-use Rattle.codings.specs.declared.admin.MncLength.{MncLength}
-use Rattle.codings.specs.declared.admin.MncLength.TheVariants.{Absent, Digits}
+use Rattle.codings.specs.declared.spn.Provider.{Provider}
 
 -- no bytes: unused; the MCC's three digits and the MNC's two: a network; all else: outside, for it has no MNC digits
-unfoldable pub entry_of : List ℕ → Plmn
+unfoldable pub entry_of : List ℕ → Option Network
 entry_of v =
-    choose (eqb (length v) 0) Unused
+    choose (eqb (length v) 0) None
     (choose (eqb (length v) 5 && eqb (lead 10 v) 5)
-    (Network (100 * get_or v 0 0 + 10 * get_or v 1 0 + get_or v 2 0) (10 * get_or v 3 0 + get_or v 4 0) 2)
-    (Network 0 0 0))
+    (plmn (100 * get_or v 0 0 + 10 * get_or v 1 0 + get_or v 2 0) (10 * get_or v 3 0 + get_or v 4 0) 2)
+    (plmn 0 0 0))
 
-abbrev pub entry_bytes : Plmn → List ℕ
-entry_bytes Unused = []
-entry_bytes (Network mcc mnc digits) = mcc / 100 % 10 ∷ mcc / 10 % 10 ∷ mcc % 10 ∷ mnc / 10 % 10 ∷ mnc % 10 ∷ []
+abbrev pub entry_bytes : Option Network → List ℕ
+entry_bytes None = []
+entry_bytes (Some n) = n.mcc / 100 % 10 ∷ n.mcc / 10 % 10 ∷ n.mcc % 10 ∷ n.mnc / 10 % 10 ∷ n.mnc % 10 ∷ []
 
 -- the number in the first four bytes, high byte first
 unfoldable pub word : List ℕ → ℕ
@@ -51,12 +50,12 @@ state_bytes v = state_byte v ∷ []
 unfoldable pub mode_of : List ℕ → ℕ
 mode_of v = choose (eqb (length v) 2) (get_or v 0 0) 3
 
-unfoldable pub mnc_of : List ℕ → MncLength
-mnc_of v = choose (eqb (get_or v 1 0) 0) Absent (Digits (get_or v 1 0))
+unfoldable pub mnc_of : List ℕ → Option ℕ
+mnc_of v = choose (eqb (get_or v 1 0) 0) None (Some (get_or v 1 0))
 
-abbrev pub mnc_byte : MncLength → ℕ
-mnc_byte Absent = 0
-mnc_byte (Digits n) = n
+abbrev pub mnc_byte : Option ℕ → ℕ
+mnc_byte None = 0
+mnc_byte (Some n) = n
 
 abbrev pub setting_bytes : Setting → List ℕ
 setting_bytes v = v.mode ∷ mnc_byte v.mnc ∷ []

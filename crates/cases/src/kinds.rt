@@ -2,7 +2,7 @@
 ghost use Rattle.std.specs.Prelude.{◌≡◌};
 ghost use Rattle.cases.specs.Kinds.{kind_of};
 
-#[derive(Clone, Copy)]
+#[derive(Clone, Copy, Debug, PartialEq, Eq)]
 pub enum Kind {
     Iccid,
     Imsi,
@@ -13,26 +13,19 @@ pub enum Kind {
     Unknown,
 }
 
-pub fn kind_of(b: u8) -> Kind
-    ensures { result ≡ kind_of b }
-{
-    if b == 1 {
-        return Kind::Iccid;
+impl From<u8> for Kind {
+    ghost from_gives = { λ b k. k ≡ kind_of b };
+
+    #[tactic(auto, unfolding(crate::specs::Choice::choose))]
+    fn from(b: u8) -> Kind {
+        match b {
+            1 => Kind::Iccid,
+            2 => Kind::Imsi,
+            3 => Kind::Network,
+            4 => Kind::Services,
+            5 => Kind::Spn,
+            6 => Kind::Admin,
+            _ => Kind::Unknown,
+        }
     }
-    if b == 2 {
-        return Kind::Imsi;
-    }
-    if b == 3 {
-        return Kind::Network;
-    }
-    if b == 4 {
-        return Kind::Services;
-    }
-    if b == 5 {
-        return Kind::Spn;
-    }
-    if b == 6 {
-        return Kind::Admin;
-    }
-    Kind::Unknown
 }

@@ -4,5 +4,4 @@
 
 pub mod kinds;
 pub mod operations;
-pub mod shown;
 pub mod values;

@@ -2,21 +2,22 @@
 ghost use Rattle.std.specs.Prelude.{◌≡◌};
 ghost use Rattle.cases.specs.Operations.{operation_of};
 
-#[derive(Clone, Copy)]
+#[derive(Clone, Copy, Debug, PartialEq, Eq)]
 pub enum Operation {
     Decode,
     Encode,
     Unknown,
 }
 
-pub fn operation_of(b: u8) -> Operation
-    ensures { result ≡ operation_of b }
-{
-    if b == 0 {
-        return Operation::Decode;
+impl From<u8> for Operation {
+    ghost from_gives = { λ b o. o ≡ operation_of b };
+
+    #[tactic(auto, unfolding(crate::specs::Choice::choose))]
+    fn from(b: u8) -> Operation {
+        match b {
+            0 => Operation::Decode,
+            1 => Operation::Encode,
+            _ => Operation::Unknown,
+        }
     }
-    if b == 1 {
-        return Operation::Encode;
-    }
-    Operation::Unknown
 }

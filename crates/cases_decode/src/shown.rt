@@ -1,127 +1,63 @@
 // What a decode shows of each kind.
-ghost use Rattle.std.specs.Prelude.{◌≡◌, []};
-ghost use Rattle.codings.specs.Answers.{number, outcome};
-ghost use Rattle.codings.specs.Iccid.{decode as iccid_in};
+ghost use Rattle.std.specs.Prelude.{◌≡◌, [], length};
+ghost use Rattle.codings.specs.Answers.{decoded};
 ghost use Rattle.codings.specs.Imsi.{decode as imsi_in};
 ghost use Rattle.codings.specs.Network.{decode as network_in};
 ghost use Rattle.codings.specs.Services.{read as service_in};
 ghost use Rattle.codings.specs.Spn.{decode as spn_in};
 ghost use Rattle.codings.specs.Admin.{decode as admin_in};
 ghost use Rattle.cases.specs.Values.{entry_bytes, state_byte, state_bytes, provider_bytes, mnc_byte, setting_bytes};
-ghost use Rattle.cases.specs.Shown.{Shows, kept, stricter, without, shown};
+ghost use Rattle.cases.specs.Shown.{alone, shown};
 
-use cases::shown::Shown;
-use codings::Answer;
-use codings::admin::MncLength;
-use codings::network::Plmn;
+use codings::Refused;
+use codings::admin::Setting;
+use codings::network::Network;
 use codings::services::Service;
-use fields::text::place;
+use codings::spn::Provider;
+use fields::bytes::Bytes;
 
-pub(crate) fn refused(answer: Answer) -> Shown
-    ensures { Shows result (outcome (number answer) []) }
+// A decode that takes no value: where one was given, it is refused; a wrong length stays one.
+#[tactic(auto, unfolding(cases::specs::Shown::alone, cases::specs::Shown::refusal, cases::specs::Choice::choose))]
+pub(crate) fn alone(given: &[u8], shown: Result<Bytes<20>, Refused>) -> Result<Bytes<20>, Refused>
+    ensures { decoded [] result ≡ alone (length given.now) (decoded [] shown) }
 {
-    Shown {
-        answer,
-        value: [0u8; 20],
-        count: 0,
+    if given.is_empty() {
+        return shown;
     }
+    shown.and(Err(Refused::Value))
 }
 
-// The value, if the answer is 0.
-fn kept(answer: Answer, value: [u8; 20], count: usize) -> Shown
-    ensures { result ≡ kept answer value count }
+pub(crate) fn imsi(file: &[u8]) -> Result<Bytes<20>, Refused>
+    ensures { decoded [] result ≡ imsi_in file.now }
 {
-    match answer {
-        Answer::Done => Shown {
-            answer,
-            value,
-            count,
-        },
-        Answer::Length => Shown {
-            answer,
-            value: [0u8; 20],
-            count: 0,
-        },
-        Answer::Value => Shown {
-            answer,
-            value: [0u8; 20],
-            count: 0,
-        },
-    }
+    let digits = codings_imsi::decode(file)?;
+    let mut value = Bytes::new();
+    value.push_all(digits.as_slice());
+    Ok(value)
 }
 
-// The refusal of what was decoded all the same: a wrong length stays one.
-pub(crate) fn stricter(answer: Answer) -> Answer
-    ensures { result ≡ stricter answer }
+// The digits of a network, and no bytes for an unused entry.
+fn entry_bytes(e: Option<Network>) -> Bytes<20>
+    ensures { result ≡ entry_bytes e }
 {
-    match answer {
-        Answer::Done => Answer::Value,
-        Answer::Length => Answer::Length,
-        Answer::Value => Answer::Value,
+    let mut value = Bytes::new();
+    if let Some(Network { mcc, mnc, .. }) = e {
+        value.push_all(&[
+            (mcc / 100 % 10) as u8,
+            (mcc / 10 % 10) as u8,
+            (mcc % 10) as u8,
+            (mnc / 10 % 10) as u8,
+            (mnc % 10) as u8,
+        ]);
     }
+    value
 }
 
-// A decode that takes no value: where one was given, of so many bytes, it is refused.
-pub(crate) fn alone(given: usize, r: Shown) -> Shown
-    ensures { result ≡ without given r }
+#[tactic(auto, unfolding(cases::specs::Shown::shown, cases::specs::Choice::choose))]
+pub(crate) fn network(file: &[u8]) -> Result<Bytes<20>, Refused>
+    ensures { decoded [] result ≡ shown entry_bytes (network_in file.now) }
 {
-    if given == 0 {
-        return r;
-    }
-    let answer = r.answer;
-    Shown {
-        answer: stricter(answer),
-        value: [0u8; 20],
-        count: 0,
-    }
-}
-
-pub(crate) fn iccid(file: &[u8]) -> Shown
-    ensures { Shows result (iccid_in file.now) }
-{
-    let r = codings_iccid::decode(file);
-    let answer = r.answer;
-    let value = r.digits;
-    Shown {
-        answer,
-        value,
-        count: r.count,
-    }
-}
-
-pub(crate) fn imsi(file: &[u8]) -> Shown
-    ensures { Shows result (imsi_in file.now) }
-{
-    let r = codings_imsi::decode(file);
-    let answer = r.answer;
-    let digits = r.digits;
-    let mut value = [0u8; 20];
-    place(&digits, 0, &mut value, 0);
-    Shown {
-        answer,
-        value,
-        count: r.count,
-    }
-}
-
-pub(crate) fn network(file: &[u8]) -> Shown
-    ensures { Shows result (shown entry_bytes (network_in file.now)) }
-{
-    let r = codings_network::decode(file);
-    let answer = r.answer;
-    let e = r.entry;
-    let mut value = [0u8; 20];
-    match e {
-        Plmn::Unused => kept(answer, value, 0),
-        Plmn::Network { mcc, mnc, digits } => {
-            value[0] = (mcc / 100 % 10) as u8;
-            value[1] = (mcc / 10 % 10) as u8;
-            value[2] = (mcc % 10) as u8;
-            value[3] = (mnc / 10 % 10) as u8;
-            value[4] = (mnc % 10) as u8;
-            kept(answer, value, 5)
-        }
-    }
+    codings_network::decode(file).map(entry_bytes)
 }
 
 fn state_byte(v: Service) -> u8
@@ -134,47 +70,50 @@ fn state_byte(v: Service) -> u8
     }
 }
 
-pub(crate) fn service(file: &[u8], n: usize) -> Shown
-    ensures { Shows result (shown state_bytes (service_in file.now n)) }
+fn state_bytes(v: Service) -> Bytes<20>
+    ensures { result ≡ state_bytes v }
 {
-    let r = codings_services::read(file, n);
-    let answer = r.answer;
-    let v = r.service;
-    let mut value = [0u8; 20];
-    value[0] = state_byte(v);
-    kept(answer, value, 1)
+    let mut value = Bytes::new();
+    value.push(state_byte(v));
+    value
 }
 
-pub(crate) fn spn(file: &[u8]) -> Shown
-    ensures { Shows result (shown provider_bytes (spn_in file.now)) }
+#[tactic(auto, unfolding(cases::specs::Shown::shown, cases::specs::Choice::choose))]
+pub(crate) fn service(file: &[u8], n: usize) -> Result<Bytes<20>, Refused>
+    ensures { decoded [] result ≡ shown state_bytes (service_in file.now n) }
 {
-    let r = codings_spn::decode(file);
-    let answer = r.answer;
-    let name = r.name;
-    let count = r.count;
-    let mut value = [0u8; 20];
-    place(&name, 0, &mut value, 1);
-    value[0] = codings_spn::bits(r.bit1, r.bit2);
-    kept(answer, value, count + 1)
+    codings_services::read(file, n).map(state_bytes)
 }
 
-fn mnc_byte(n: MncLength) -> u8
-    ensures { result ≡ mnc_byte n }
+// The byte of b1 and b2, and the name.
+fn provider_bytes(p: Provider) -> Bytes<20>
+    ensures { result ≡ provider_bytes p }
 {
-    match n {
-        MncLength::Absent => 0,
-        MncLength::Digits(d) => d,
-    }
+    let mut value = Bytes::new();
+    value.push(codings_spn::bits(p.bit1, p.bit2));
+    value.push_all(p.name.as_slice());
+    value
 }
 
-pub(crate) fn admin(file: &[u8]) -> Shown
-    ensures { Shows result (shown setting_bytes (admin_in file.now)) }
+#[tactic(auto, unfolding(cases::specs::Shown::shown, cases::specs::Choice::choose))]
+pub(crate) fn spn(file: &[u8]) -> Result<Bytes<20>, Refused>
+    ensures { decoded [] result ≡ shown provider_bytes (spn_in file.now) }
 {
-    let r = codings_admin::decode(file);
-    let answer = r.answer;
-    let n = r.mnc;
-    let mut value = [0u8; 20];
-    value[0] = r.mode;
-    value[1] = mnc_byte(n);
-    kept(answer, value, 2)
+    codings_spn::decode(file).map(provider_bytes)
+}
+
+// Mode and MNC length, 0 if it is absent.
+fn setting_bytes(v: Setting) -> Bytes<20>
+    ensures { result ≡ setting_bytes v }
+{
+    let mut value = Bytes::new();
+    value.push_all(&[v.mode, v.mnc.unwrap_or(0)]);
+    value
+}
+
+#[tactic(auto, unfolding(cases::specs::Shown::shown, cases::specs::Choice::choose))]
+pub(crate) fn admin(file: &[u8]) -> Result<Bytes<20>, Refused>
+    ensures { decoded [] result ≡ shown setting_bytes (admin_in file.now) }
+{
+    codings_admin::decode(file).map(setting_bytes)
 }

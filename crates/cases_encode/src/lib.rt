@@ -8,10 +8,11 @@ ghost use Rattle.codings.specs.Answers.{told};
 ghost use Rattle.cases.specs.Cases.{encode};
 
 use cases::kinds::Kind;
-use codings::Answer;
+use codings::Refused;
 
 // Encodes the value into the file.
-pub fn encode(kind: Kind, value: &[u8], file: &mut [u8]) -> Answer
+#[tactic(auto, unfolding(cases::specs::Cases::encode))]
+pub fn encode(kind: Kind, value: &[u8], file: &mut [u8]) -> Result<(), Refused>
     ensures { told result file.new ≡ encode kind value.now file.old }
 {
     match kind {
@@ -24,7 +25,7 @@ pub fn encode(kind: Kind, value: &[u8], file: &mut [u8]) -> Answer
             values::state(value),
         ),
         Kind::Spn => values::put_provider(value, file),
-        Kind::Admin => codings_admin::encode(values::mode(value), values::mnc(value), file),
-        Kind::Unknown => Answer::Value,
+        Kind::Admin => codings_admin::encode(values::setting(value), file),
+        Kind::Unknown => Err(Refused::Value),
     }
 }

@@ -1,109 +1,83 @@
 // Values from bytes. Bytes that are no value of their kind are read as a value outside the coding.
-ghost use Rattle.std.specs.Prelude.{◌≡◌, ◌<◌};
+ghost use Rattle.std.specs.Prelude.{◌≡◌};
 ghost use Rattle.codings.specs.Answers.{told};
+ghost use Rattle.codings.specs.Admin.{setting};
 ghost use Rattle.codings.specs.Spn.{encode};
 ghost use Rattle.cases.specs.Values.{entry_of, ordered, state_of, mode_of, mnc_of, provider_of};
 
 use cases::values::{byte, word};
-use codings::Answer;
-use codings::admin::MncLength;
-use codings::network::Plmn;
+use codings::Refused;
+use codings::admin::Setting;
+use codings::network::Network;
 use codings::services::Service;
 use fields::text::lead;
 
-fn wide(b: u8) -> u16
-    ensures { (result ≡ b) × (result < 256) }
-{
-    b as u16
-}
-
 // An entry: none, or three digits and two.
-pub(crate) fn entry(v: &[u8]) -> Plmn
+#[tactic(auto, unfolding(cases::specs::Values::entry_of, cases::specs::Choice::choose))]
+pub(crate) fn entry(v: &[u8]) -> Option<Network>
     ensures { result ≡ entry_of v.now }
 {
-    if v.len() == 0 {
-        return Plmn::Unused;
-    }
-    if v.len() != 5 {
-        return Plmn::Network {
+    match *v {
+        [] => None,
+        [a, b, c, d, e] if lead(v, 10) == 5 => Some(Network {
+            mcc: 100 * u16::from(a) + 10 * u16::from(b) + u16::from(c),
+            mnc: 10 * u16::from(d) + u16::from(e),
+            digits: 2,
+        }),
+        _ => Some(Network {
             mcc: 0,
             mnc: 0,
             digits: 0,
-        };
-    }
-    if lead(v, 10) != 5 {
-        return Plmn::Network {
-            mcc: 0,
-            mnc: 0,
-            digits: 0,
-        };
-    }
-    Plmn::Network {
-        mcc: 100 * wide(v[0]) + 10 * wide(v[1]) + wide(v[2]),
-        mnc: 10 * wide(v[3]) + wide(v[4]),
-        digits: 2,
+        }),
     }
 }
 
 // The service that is to be written: four bytes, and a state.
+#[tactic(auto, unfolding(cases::specs::Values::ordered, cases::specs::Choice::choose))]
 pub(crate) fn ordered(v: &[u8]) -> usize
     ensures { result ≡ ordered v.now }
 {
-    if v.len() != 5 {
-        return 0;
+    match *v {
+        [_, _, _, _, state] if state < 3 => word(v),
+        _ => 0,
     }
-    if byte(v, 4) >= 3 {
-        return 0;
-    }
-    word(v)
 }
 
 // Its state.
+#[tactic(auto, unfolding(cases::specs::Values::state_of, cases::specs::Choice::choose))]
 pub(crate) fn state(v: &[u8]) -> Service
     ensures { result ≡ state_of v.now }
 {
-    let b = byte(v, 4);
-    if b == 0 {
-        return Service::NotAllocated;
+    match byte(v, 4) {
+        0 => Service::NotAllocated,
+        1 => Service::Allocated,
+        _ => Service::Activated,
     }
-    if b == 1 {
-        return Service::Allocated;
-    }
-    Service::Activated
 }
 
-// The mode: of two bytes the first.
-pub(crate) fn mode(v: &[u8]) -> u8
-    ensures { result ≡ mode_of v.now }
+// The mode, of two bytes the first, and the MNC length, absent where it is 0.
+#[tactic(auto, unfolding(cases::specs::Values::mode_of, cases::specs::Values::mnc_of, cases::specs::Choice::choose))]
+pub(crate) fn setting(v: &[u8]) -> Setting
+    ensures { result ≡ setting (mode_of v.now) (mnc_of v.now) }
 {
-    if v.len() == 2 {
-        return byte(v, 0);
-    }
-    3
-}
-
-// The MNC length, 0 if it is absent.
-pub(crate) fn mnc(v: &[u8]) -> MncLength
-    ensures { result ≡ mnc_of v.now }
-{
-    let n = byte(v, 1);
-    if n == 0 {
-        return MncLength::Absent;
-    }
-    MncLength::Digits(n)
+    let mode = match *v {
+        [mode, _] => mode,
+        _ => 3,
+    };
+    let mnc = match byte(v, 1) {
+        0 => None,
+        n => Some(n),
+    };
+    Setting { mode, mnc }
 }
 
 // The byte of b1 and b2 and the name, encoded into the file.
-pub(crate) fn put_provider(v: &[u8], file: &mut [u8]) -> Answer
+#[tactic(auto, unfolding(cases::specs::Values::provider_of, cases::specs::Choice::choose))]
+pub(crate) fn put_provider(v: &[u8], file: &mut [u8]) -> Result<(), Refused>
     ensures { told result file.new ≡ encode (provider_of v.now) file.old }
 {
-    let none = [255u8; 1];
-    if v.len() == 0 {
-        return codings_spn::encode(false, false, &none, file);
+    match v {
+        [b, name @ ..] if *b < 4 => codings_spn::encode(*b % 2 == 1, *b / 2 == 1, name, file),
+        _ => codings_spn::encode(false, false, &[255], file),
     }
-    let b = v[0];
-    if b >= 4 {
-        return codings_spn::encode(false, false, &none, file);
-    }
-    codings_spn::encode(b % 2 == 1, b / 2 == 1, &v[1..], file)
 }

@@ -1,5 +1,5 @@
 -- The two codes of an entry, as the code names them, and what a test of one goes by.
-use Rattle.std.specs.Prelude.{ℕ, ◌≡◌, List, [], ◌∷◌, Bool, true, false, not, length, eqb}
+use Rattle.std.specs.Prelude.{ℕ, List, [], ◌∷◌, Bool, true, false, not, eqb}
 use Rattle.card.specs.Answers.{Refusal, ◌says◌}
 use Rattle.card.specs.Codes as card
 use Rattle.card.specs.declared.Code.{Code}
@@ -23,9 +23,3 @@ untestable key k contradicts =
 -- the word of a wrong code, by the attempts that were left before it
 unfoldable pub missed_word : ℕ → ℕ
 missed_word left = elim (eqb left 1) [ true ↦ 0x9840 | false ↦ 0x9804 ]
-
--- An entry, a code that is tried on it and the code that it gets.
-pub record Tried (l d n : List ℕ) : Type 0 where
-  pub entry : length l ≡ 20
-  pub given : length d ≡ 8
-  pub new : length n ≡ 8

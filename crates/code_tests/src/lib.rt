@@ -6,173 +6,153 @@ ghost use Rattle.std.specs.Prelude.{◌≡◌, ◌+◌, ◌≤◌, ◌<◌, leng
 ghost use Rattle.card.specs.Bytes.{part, same};
 ghost use Rattle.card.specs.Answers.{first};
 ghost use Rattle.card.specs.Codes.{attempts_left, attempts_at, ready, renewed, tested};
+ghost use Rattle.card.specs.Refused.{word_in, word_of};
 ghost use Rattle.commands.specs.Gives.{Codes};
-ghost use Rattle.code_tests.specs.Numbers.{Numbered};
-ghost use Rattle.code_tests.specs.Keys.{keyed, value_at, untestable, missed_word, Tried};
+ghost use Rattle.code_tests.specs.Keys.{keyed, value_at, untestable, missed_word};
 
-use card::{Code, Session};
+use card::{Code, Refused, Session};
 use commands::answers::{Reply, refusal, silent};
-use parts::wide;
 use sessions::{dropped, presents};
 
 // Which of an entry's two codes a command tests.
-#[derive(Clone, Copy)]
+#[derive(Clone, Copy, Debug, PartialEq, Eq)]
 pub enum Key {
     Chv,
     Unblocking,
 }
 
-fn ready(key: Key, k: Code) -> bool
-    ensures { result ≡ ready (keyed key) k }
-{
-    let initialised = k.flags / 128 % 2 == 1;
-    match key {
-        Key::Chv => initialised,
-        Key::Unblocking => initialised & (k.flags / 64 % 2 == 1),
+impl Key {
+    #[tactic(auto, unfolding(crate::specs::Keys::keyed))]
+    fn ready(self, k: Code) -> bool
+        ensures { result ≡ ready (keyed self) k }
+    {
+        let initialised = k.flags / 128 % 2 == 1;
+        match self {
+            Key::Chv => initialised,
+            Key::Unblocking => initialised && k.flags / 64 % 2 == 1,
+        }
+    }
+
+    // How many attempts are left, and where that stands in the entry.
+    #[tactic(auto, unfolding(crate::specs::Keys::keyed))]
+    fn attempts_left(self, k: Code) -> u8
+        ensures { result ≡ attempts_left (keyed self) k }
+    {
+        match self {
+            Key::Chv => k.attempts,
+            Key::Unblocking => k.unblocks,
+        }
+    }
+
+    #[tactic(auto, unfolding(crate::specs::Keys::keyed))]
+    fn attempts_at(self) -> usize
+        ensures { (result ≡ attempts_at (keyed self)) × (result < 20) }
+    {
+        match self {
+            Key::Chv => 1,
+            Key::Unblocking => 2,
+        }
+    }
+
+    // Where the code itself stands in the entry.
+    #[tactic(auto, unfolding(crate::specs::Keys::keyed))]
+    fn value_at(self) -> usize
+        ensures { (result ≡ value_at (keyed self)) × (result ≤ 12) }
+    {
+        match self {
+            Key::Chv => 4,
+            Key::Unblocking => 12,
+        }
     }
 }
 
-// How many attempts are left, and where that stands in the entry.
-fn attempts_left(key: Key, k: Code) -> u8
-    ensures { result ≡ attempts_left (keyed key) k }
+// The first refusal of a test.
+#[tactic(auto, unfolding(crate::specs::Keys::untestable, card::specs::Answers::first))]
+fn testable(key: Key, k: Code, contradicts: bool) -> Result<(), Refused>
+    ensures { word_in result ≡ first (untestable (keyed key) k contradicts) }
 {
-    match key {
-        Key::Chv => k.attempts,
-        Key::Unblocking => k.unblocks,
+    if !key.ready(k) {
+        return Err(Refused::NotInitialised);
     }
-}
-
-fn attempts_at(key: Key) -> usize
-    ensures { (result ≡ attempts_at (keyed key)) × (result < 20) }
-{
-    match key {
-        Key::Chv => 1,
-        Key::Unblocking => 2,
-    }
-}
-
-// Where the code itself stands in the entry.
-fn value_at(key: Key) -> usize
-    ensures { (result ≡ value_at (keyed key)) × (result ≤ 12) }
-{
-    match key {
-        Key::Chv => 4,
-        Key::Unblocking => 12,
-    }
-}
-
-// The word of the first refusal of a test, and 0 where none holds.
-fn untestable(key: Key, k: Code, contradicts: bool) -> u16
-    ensures { result ≡ first (untestable (keyed key) k contradicts) }
-{
-    if !ready(key, k) {
-        return 0x9802;
-    }
-    if attempts_left(key, k) == 0 {
-        return 0x9840;
+    if key.attempts_left(k) == 0 {
+        return Err(Refused::Blocked);
     }
     if contradicts {
-        return 0x9808;
+        return Err(Refused::Contradicted);
     }
-    0
+    Ok(())
 }
 
-// The word of a wrong code, by the attempts that were left before it.
-fn missed_word(left: u8) -> u16
-    ensures { result ≡ missed_word left }
+// Why a wrong code is refused, by the attempts that were left before it.
+#[tactic(auto, unfolding(crate::specs::Keys::missed_word))]
+fn missed(left: u8) -> Refused
+    ensures { word_of result ≡ missed_word left }
 {
     if left == 1 {
-        return 0x9840;
+        return Refused::Blocked;
     }
-    0x9804
+    Refused::NotAllowed
 }
 
-// The eight bytes from a place on. `renew` reads all before it writes one, since the compiler can't tell that the two slices are apart.
-fn eight(l: &[u8], at: usize) -> [u8; 8]
+// The eight bytes from a place on, where a code stands. Only this player's crates call it.
+pub fn eight(l: &[u8], at: usize) -> [u8; 8]
     requires { at + 8 ≤ length l.now }
     ensures { result ≡ part l.now at 8 }
 {
-    [
-        l[at],
-        l[at + 1],
-        l[at + 2],
-        l[at + 3],
-        l[at + 4],
-        l[at + 5],
-        l[at + 6],
-        l[at + 7],
-    ]
-}
-
-// Eight bytes as one number, the first of them lowest: compiled, one load, where eight tests of a byte keep `tested` from being inlined.
-fn number(b: [u8; 8]) -> usize
-    ensures { Numbered result b }
-{
-    wide(b[0])
-        + wide(b[1]) * 0x100
-        + wide(b[2]) * 0x10000
-        + wide(b[3]) * 0x1000000
-        + wide(b[4]) * 0x100000000
-        + wide(b[5]) * 0x10000000000
-        + wide(b[6]) * 0x1000000000000
-        + wide(b[7]) * 0x100000000000000
+    let mut code = [0; 8];
+    code.copy_from_slice(&l[at..at + 8]);
+    code
 }
 
 // Whether the code at a place of the entry is the given one.
-fn same_code(e: &[u8], at: usize, given: &[u8]) -> bool
-    requires { (at + 8 ≤ length e.now) × (length given.now ≡ 8) }
-    ensures { result ≡ same (part e.now at 8) given.now }
+#[tactic(auto, using(card::proofs::Tests::compared))]
+fn same_code(e: &[u8], at: usize, given: [u8; 8]) -> bool
+    requires { at + 8 ≤ length e.now }
+    ensures { result ≡ same (part e.now at 8) given }
 {
-    number(eight(e, at)) == number(eight(given, 0))
+    eight(e, at) == given
 }
 
-// The entry with other flags, all attempts, other unblock attempts and another code.
-fn renew(e: &mut [u8], flags: u8, unblocks: u8, new: &[u8])
-    requires { (length e.old ≡ 20) × (length new.now ≡ 8) }
-    ensures { e.new ≡ renewed e.old flags unblocks new.now }
+// What a right code makes of its entry, which gets all attempts.
+#[derive(Clone, Copy, Debug, PartialEq, Eq)]
+pub struct Renewal {
+    pub flags: u8,
+    pub unblocks: u8,
+    pub code: [u8; 8],
+}
+
+fn renew(e: &mut [u8], to: Renewal)
+    requires { length e.old ≡ 20 }
+    ensures { e.new ≡ renewed e.old to.flags to.unblocks to.code }
 {
-    let code = eight(new, 0);
-    e[0] = flags;
-    e[1] = 3;
-    e[2] = unblocks;
-    e[3] = 0;
-    e[4] = code[0];
-    e[5] = code[1];
-    e[6] = code[2];
-    e[7] = code[3];
-    e[8] = code[4];
-    e[9] = code[5];
-    e[10] = code[6];
-    e[11] = code[7];
+    e[..4].copy_from_slice(&[to.flags, 3, to.unblocks, 0]);
+    e[4..12].copy_from_slice(&to.code);
 }
 
 // A code is tested: right, it is presented and its entry is renewed; wrong, its counter falls by one. Only this player's crates call it.
+#[tactic(auto, using(crate::proofs::Trials::some), unfolding(crate::specs::Keys::untestable, crate::specs::Keys::missed_word, card::specs::Codes::tested, card::specs::Answers::unless, commands::specs::Gives::brief))]
 pub fn tested(
     e: &mut [u8],
     s: Session,
     c: usize,
     key: Key,
     contradicts: bool,
-    given: &[u8],
-    flags: u8,
-    unblocks: u8,
-    new: &[u8],
+    given: [u8; 8],
+    to: Renewal,
 ) -> Reply
-    requires { Tried e.old given.now new.now }
-    ensures { Codes (tested e.old s c (keyed key) contradicts given.now
-        (renewed e.old flags unblocks new.now)) result e.new }
+    requires { length e.old ≡ 20 }
+    ensures { Codes (tested e.old s c (keyed key) contradicts given
+        (renewed e.old to.flags to.unblocks to.code)) result e.new }
 {
     let k = entries::code(e, 0);
-    let word = untestable(key, k, contradicts);
-    if word != 0 {
-        return refusal(s, word);
+    if let Err(why) = testable(key, k, contradicts) {
+        return refusal(s, u16::from(why));
     }
-    if !same_code(e, value_at(key), given) {
-        let left = attempts_left(key, k);
-        let at = attempts_at(key);
-        e[at] = left - 1;
-        return refusal(s, missed_word(left));
+    if !same_code(e, key.value_at(), given) {
+        let left = key.attempts_left(k);
+        e[key.attempts_at()] = left - 1;
+        return refusal(s, u16::from(missed(left)));
     }
-    renew(e, flags, unblocks, new);
+    renew(e, to);
     silent(presents(c, dropped(s)), 0x9000)
 }

@@ -1,5 +1,5 @@
 -- Worked examples, as one table.
-use Rattle.std.specs.Prelude.{ℕ, zero, suc, ◌/◌, ◌%◌, ◌^◌, ◌≡◌, List, [], ◌∷◌, Bool, true, false, length, replicate}
+use Rattle.std.specs.Prelude.{ℕ, zero, suc, ◌/◌, ◌%◌, ◌^◌, ◌≡◌, List, [], ◌∷◌, Bool, true, false, length, replicate, Option, Some, None}
 use Rattle.codings.specs.Answers.{outcome, done}
 use Rattle.codings.specs.Iccid as iccids
 use Rattle.codings.specs.Imsi as imsis
@@ -7,12 +7,10 @@ use Rattle.codings.specs.Network as networks
 use Rattle.codings.specs.Services as tables
 use Rattle.codings.specs.Spn as names
 use Rattle.codings.specs.Admin as admins
-use Rattle.codings.specs.declared.network.Plmn.{Plmn}
-use Rattle.codings.specs.declared.network.Plmn.TheVariants.{Unused, Network}
+use Rattle.codings.specs.Network.{plmn}
+use Rattle.codings.specs.declared.network.Network.{Network}
 use Rattle.codings.specs.declared.services.Service.{Service}
 use Rattle.codings.specs.declared.services.Service.TheVariants.{NotAllocated, Allocated, Activated}
-use Rattle.codings.specs.declared.admin.MncLength.{MncLength}
-use Rattle.codings.specs.declared.admin.MncLength.TheVariants.{Absent, Digits}
 
 -- so many digits of a number, and so many bytes
 abbrev pub digits : ℕ → ℕ → List ℕ
@@ -27,9 +25,9 @@ bytes (suc k) n = n / 256 ^ k % 256 ∷ bytes k n
 pub data Example : Type 0 where
   iccid : List ℕ → List ℕ → Example
   imsi : List ℕ → List ℕ → Example
-  network : Plmn → List ℕ → Example
+  network : Option Network → List ℕ → Example
   spn : Bool → Bool → List ℕ → List ℕ → Example
-  admin : ℕ → MncLength → List ℕ → Example
+  admin : ℕ → Option ℕ → List ℕ → Example
   no_iccid : ℕ → List ℕ → Example
   no_imsi : ℕ → List ℕ → Example
   no_network : ℕ → List ℕ → Example
@@ -47,9 +45,9 @@ Holds (spn b1 b2 n l) =
 Holds (admin m n l) = (admins.decode l ≡ done (admins.setting m n)) × (admins.encode (admins.setting m n) l ≡ done l)
 Holds (no_iccid a l) = iccids.decode l ≡ outcome a []
 Holds (no_imsi a l) = imsis.decode l ≡ outcome a []
-Holds (no_network a l) = networks.decode l ≡ outcome a Unused
+Holds (no_network a l) = networks.decode l ≡ outcome a None
 Holds (no_spn a l) = names.decode l ≡ outcome a (names.provider false false [])
-Holds (no_admin a l) = admins.decode l ≡ outcome a (admins.setting 0 Absent)
+Holds (no_admin a l) = admins.decode l ≡ outcome a (admins.setting 0 None)
 Holds (reads l n v) = tables.read l n ≡ done v
 Holds (writes l n v k) = tables.write l n v ≡ done k
 
@@ -69,8 +67,8 @@ examples =
     ∷ no_imsi 6 (bytes 9 0x080110101032547698)
     ∷ no_imsi 6 (bytes 9 0x0809101010325476F8)
     ∷ no_imsi 6 (bytes 9 0x01F1FFFFFFFFFFFFFF)
-    ∷ network (Network 246 81 2) (bytes 3 0x42F618)
-    ∷ network Unused (bytes 3 0xFFFFFF)
+    ∷ network (plmn 246 81 2) (bytes 3 0x42F618)
+    ∷ network None (bytes 3 0xFFFFFF)
     ∷ no_network 6 (bytes 3 0x130014)
     ∷ reads (bytes 2 0x0200) 1 NotAllocated
     ∷ reads (bytes 2 0x0300) 9 NotAllocated
@@ -80,9 +78,9 @@ examples =
     ∷ spn true false (bytes 2 0x4142) (bytes 17 0x014142FFFFFFFFFFFFFFFFFFFFFFFFFFFF)
     ∷ no_spn 6 (bytes 17 0x0141FF42FFFFFFFFFFFFFFFFFFFFFFFFFF)
     ∷ no_spn 6 (bytes 17 0xFFFFFFFFFFFFFFFFFFFFFFFFFFFFFFFFFF)
-    ∷ admin 0x00 Absent (bytes 3 0x000000)
-    ∷ admin 0x01 (Digits 2) (bytes 4 0x01000102)
-    ∷ admin 0x01 (Digits 3) (bytes 4 0x010001F3)
+    ∷ admin 0x00 None (bytes 3 0x000000)
+    ∷ admin 0x01 (Some 2) (bytes 4 0x01000102)
+    ∷ admin 0x01 (Some 3) (bytes 4 0x010001F3)
     ∷ no_admin 6 (bytes 4 0x00000001)
     ∷ no_admin 6 (bytes 3 0x030000)
     ∷ no_admin 5 (bytes 2 0x0000)

@@ -1,9 +1,8 @@
 -- ICCID, 10 bytes: 1 to 20 digits, low half first, F after the last.
-use Rattle.std.specs.Prelude.{ℕ, ◌≡◌, List, [], Bool, ◌&&◌, eqb, ltb, leb, length, get_or}
-use Rattle.codings.specs.Answers.{number, Outcome, judge}
+use Rattle.std.specs.Prelude.{ℕ, List, [], Bool, ◌&&◌, eqb, ltb, leb, length, get_or}
+use Rattle.codings.specs.Answers.{Outcome, judge}
 use Rattle.fields.specs.Halves.{halves, joined}
 use Rattle.fields.specs.Text.{padded, text, closed, within}
-use Rattle.codings.specs.declared.iccid.Iccid.{Iccid}
 
 -- the first half is a digit, and after the digits all is F
 unfoldable pub numbered : List ℕ → Bool
@@ -20,9 +19,3 @@ writable digits = leb 1 (length digits) && (leb (length digits) 20 && within 10 
 -- the file of these digits, in the room of another
 unfoldable pub encode : List ℕ → List ℕ → Outcome (List ℕ)
 encode digits room = judge (eqb (length room) 10) (writable digits) room (joined (padded 15 20 digits))
-
--- The decoder's struct shows an outcome: its answer by the paper's number, the digits with zeros after them, and their count.
-pub record Shows (r : Iccid) (o : Outcome (List ℕ)) : Type 0 where
-  pub answer : number r.answer ≡ o.answer
-  pub digits : r.digits ≡ padded 0 20 o.value
-  pub count : r.count ≡ length o.value

@@ -1,10 +1,9 @@
 -- IMSI, 9 bytes: length 1 to 8; low half of byte 2 is 9 for an odd digit count, 1 for even; first digit above it; then low half
 -- first; the last half F when even; FF after the length. 1 to 15 digits.
-use Rattle.std.specs.Prelude.{ℕ, ◌+◌, ◌-◌, ◌/◌, ◌%◌, ◌≡◌, List, [], ◌∷◌, Bool, true, false, ◌&&◌, ◌||◌, eqb, leb, length, get_or, take, drop}
-use Rattle.codings.specs.Answers.{number, Outcome, judge}
+use Rattle.std.specs.Prelude.{ℕ, ◌+◌, ◌-◌, ◌/◌, ◌%◌, List, [], ◌∷◌, Bool, true, false, ◌&&◌, ◌||◌, eqb, leb, length, get_or, take, drop}
+use Rattle.codings.specs.Answers.{Outcome, judge}
 use Rattle.fields.specs.Halves.{halves, joined}
 use Rattle.fields.specs.Text.{filled, padded, within}
-use Rattle.codings.specs.declared.imsi.Imsi.{Imsi}
 
 -- the halves of the bytes that the length counts, low half first, and the bytes after them
 abbrev pub counted : List ℕ → List ℕ
@@ -52,9 +51,3 @@ unfoldable pub encode : List ℕ → List ℕ → Outcome (List ℕ)
 encode digits room =
     judge (eqb (length room) 9) (writable digits) room
     (size (length digits) ∷ joined (mark (length digits) ∷ padded 15 15 digits))
-
--- The decoder's struct shows an outcome: its answer by the paper's number, the digits with zeros after them, and their count.
-pub record Shows (r : Imsi) (o : Outcome (List ℕ)) : Type 0 where
-  pub answer : number r.answer ≡ o.answer
-  pub digits : r.digits ≡ padded 0 15 o.value
-  pub count : r.count ≡ length o.value

@@ -1,5 +1,5 @@
 -- Decoder and encoder give back what the other made, on these domains; and their refusals are exact.
-use Rattle.std.specs.Prelude.{ℕ, ◌*◌, ◌/◌, ◌≤◌, ◌<◌, ◌≡◌, ◌↔◌, List, length, get_or}
+use Rattle.std.specs.Prelude.{ℕ, ◌*◌, ◌/◌, ◌≤◌, ◌<◌, ◌≡◌, ◌↔◌, List, length, get_or, Option}
 use Rattle.codings.specs.Answers.{Outcome, done}
 use Rattle.codings.specs.Network as network
 use Rattle.codings.specs.Services as services
@@ -9,7 +9,7 @@ use Rattle.codings.specs.Spn as spn
 use Rattle.codings.specs.Spn.{Provider}
 use Rattle.codings.specs.Iccid as iccid
 use Rattle.codings.specs.Imsi as imsi
-use Rattle.codings.specs.declared.network.Plmn.{Plmn}
+use Rattle.codings.specs.declared.network.Network.{Network}
 use Rattle.codings.specs.declared.services.Service.{Service}
 
 -- ICCID, IMSI, PLMN entry and SPN: values of the type A in files of `size` bytes.
@@ -38,7 +38,7 @@ abbrev pub ImsiCoding : Type 0
 ImsiCoding = Coding (List ℕ) 9 imsi.decode imsi.encode
 
 abbrev pub NetworkCoding : Type 0
-NetworkCoding = Coding Plmn 3 network.decode network.encode
+NetworkCoding = Coding (Option Network) 3 network.decode network.encode
 
 abbrev pub SpnCoding : Type 0
 SpnCoding = Coding Provider 17 spn.decode spn.encode

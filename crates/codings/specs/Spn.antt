@@ -1,15 +1,10 @@
 -- SPN, 17 bytes: b1 and b2 shown as they stand, b3 to b8 zero; the name's bytes up to the first FF, then all FF.
-use Rattle.std.specs.Prelude.{ℕ, ◌+◌, ◌*◌, ◌/◌, ◌%◌, ◌≡◌, List, [], ◌∷◌, Bool, true, false, ◌&&◌, eqb, ltb, leb, length, get_or, drop}
-use Rattle.codings.specs.Answers.{number, Outcome, judge}
+use Rattle.std.specs.Prelude.{ℕ, ◌+◌, ◌*◌, ◌/◌, ◌%◌, List, [], ◌∷◌, Bool, true, false, ◌&&◌, eqb, ltb, leb, length, get_or, drop}
+use Rattle.codings.specs.Answers.{Outcome, judge}
 use Rattle.fields.specs.Text.{padded, text, closed, within}
-use Rattle.codings.specs.declared.spn.Spn.{Spn}
+pub use Rattle.codings.specs.declared.spn.Provider.{Provider}
 
 -- A value: the two bits as they stand, and the name.
-pub record Provider : Type 0 where
-  pub bit1 : Bool
-  pub bit2 : Bool
-  pub name : List ℕ
-
 abbrev pub provider : Bool → Bool → List ℕ → Provider
 provider b1 b2 name = record { bit1 = b1; bit2 = b2; name = name }
 
@@ -37,11 +32,3 @@ writable name = leb (length name) 16 && within 255 name
 unfoldable pub encode : Provider → List ℕ → Outcome (List ℕ)
 encode p room =
     judge (eqb (length room) 17) (writable p.name) room (bits p.bit1 p.bit2 ∷ padded 255 16 p.name)
-
--- The decoder's struct shows an outcome: its answer by the paper's number, the bits, the name with zeros after it, and its count.
-pub record Shows (r : Spn) (o : Outcome Provider) : Type 0 where
-  pub answer : number r.answer ≡ o.answer
-  pub bit1 : r.bit1 ≡ o.value.bit1
-  pub bit2 : r.bit2 ≡ o.value.bit2
-  pub name : r.name ≡ padded 0 16 o.value.name
-  pub count : r.count ≡ length o.value.name

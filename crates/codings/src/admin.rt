@@ -1,15 +1,6 @@
-// The administrative data: mode of operation and length of the MNC in the IMSI.
-use crate::Answer;
-
-#[derive(Clone, Copy)]
-pub enum MncLength {
-    Absent,
-    Digits(u8),
-}
-
-#[derive(Clone, Copy)]
-pub struct Admin {
-    pub answer: Answer,
+// The administrative data: mode of operation, and length of the MNC in the IMSI, if it is there.
+#[derive(Clone, Copy, Debug, PartialEq, Eq)]
+pub struct Setting {
     pub mode: u8,
-    pub mnc: MncLength,
+    pub mnc: Option<u8>,
 }

@@ -1,14 +1,7 @@
-// The entry of a network in a list of networks.
-use crate::Answer;
-
-#[derive(Clone, Copy)]
-pub enum Plmn {
-    Unused,
-    Network { mcc: u16, mnc: u16, digits: u8 },
-}
-
-#[derive(Clone, Copy)]
-pub struct Entry {
-    pub answer: Answer,
-    pub entry: Plmn,
+// The network of an entry in a list of networks. An entry is a network or none: an unused one.
+#[derive(Clone, Copy, Debug, PartialEq, Eq)]
+pub struct Network {
+    pub mcc: u16,
+    pub mnc: u16,
+    pub digits: u8,
 }

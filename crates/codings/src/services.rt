@@ -1,15 +1,7 @@
 // The service table: two bits a service, four services a byte.
-use crate::Answer;
-
-#[derive(Clone, Copy)]
+#[derive(Clone, Copy, Debug, PartialEq, Eq)]
 pub enum Service {
     NotAllocated,
     Allocated,
     Activated,
-}
-
-#[derive(Clone, Copy)]
-pub struct Look {
-    pub answer: Answer,
-    pub service: Service,
 }

@@ -1,11 +1,9 @@
-// The service provider's name.
-use crate::Answer;
+// The service provider's name, and the two bits before it as they stand.
+use fields::bytes::Bytes;
 
-#[derive(Clone, Copy)]
-pub struct Spn {
-    pub answer: Answer,
+#[derive(Drop)]
+pub struct Provider {
     pub bit1: bool,
     pub bit2: bool,
-    pub name: [u8; 16],
-    pub count: usize,
+    pub name: Bytes<16>,
 }

@@ -1,120 +1,78 @@
 // The administrative data, mode of operation and length of the MNC in the IMSI, read and written.
 #![tactic(auto)]
 
-ghost use Rattle.std.specs.Prelude.{◌≡◌};
-ghost use Rattle.codings.specs.Answers.{told};
-ghost use Rattle.codings.specs.Admin.{setting, is_mode, two_or_three, decode, encode};
+ghost use Rattle.std.specs.Prelude.{◌≡◌, ◌&&◌, None};
+ghost use Rattle.codings.specs.Answers.{told, decoded};
+ghost use Rattle.codings.specs.Admin.{setting, is_mode, two_or_three, fitting, decode, encode};
 
-use codings::Answer;
-use codings::admin::{Admin, MncLength};
+use codings::Refused;
+use codings::admin::Setting;
 use fields::halves::{high, low};
 
+#[tactic(auto, unfolding(codings::specs::Admin::among))]
 fn is_mode(m: u8) -> bool
     ensures { result ≡ is_mode m }
 {
-    if m == 0x00 {
-        return true;
-    }
-    if m == 0x80 {
-        return true;
-    }
-    if m == 0x01 {
-        return true;
-    }
-    if m == 0x81 {
-        return true;
-    }
-    if m == 0x02 {
-        return true;
-    }
-    if m == 0x04 {
-        return true;
-    }
-    false
+    matches!(m, 0x00 | 0x80 | 0x01 | 0x81 | 0x02 | 0x04)
 }
 
+#[tactic(auto, unfolding(codings::specs::Admin::among))]
 fn two_or_three(n: u8) -> bool
     ensures { result ≡ two_or_three n }
 {
-    if n == 2 {
-        return true;
+    matches!(n, 2 | 3)
+}
+
+// Whether the MNC length fits the file: none in three bytes and only there, else 2 or 3.
+#[tactic(auto, unfolding(codings::specs::Admin::fitting))]
+fn fitting(s: &[u8], mnc: Option<u8>) -> bool
+    ensures { result ≡ fitting s.now mnc }
+{
+    match mnc {
+        None => s.len() == 3,
+        Some(n) => s.len() != 3 && two_or_three(n),
     }
-    if n == 3 {
-        return true;
-    }
-    false
+}
+
+// Whether a file can hold it.
+fn valid(s: &[u8], v: Setting) -> bool
+    ensures { result ≡ is_mode v.mode && fitting s.now v.mnc }
+{
+    is_mode(v.mode) && fitting(s, v.mnc)
 }
 
 // The mode and the MNC length of a file.
-pub fn decode(s: &[u8]) -> Admin
-    ensures { told result.answer (setting result.mode result.mnc) ≡ decode s.now }
+#[tactic(auto, unfolding(codings::specs::Answers::judge, codings::specs::Admin::decode, codings::specs::Admin::mnc_in))]
+pub fn decode(s: &[u8]) -> Result<Setting, Refused>
+    ensures { decoded (setting 0 None) result ≡ decode s.now }
 {
     if s.len() < 3 {
-        return Admin {
-            answer: Answer::Length,
-            mode: 0,
-            mnc: MncLength::Absent,
-        };
+        return Err(Refused::Length);
     }
-    let mode = s[0];
-    if !is_mode(mode) {
-        return Admin {
-            answer: Answer::Value,
-            mode: 0,
-            mnc: MncLength::Absent,
-        };
+    let v = Setting {
+        mode: s[0],
+        mnc: s.get(3).map(|&b| low(b)),
+    };
+    if !valid(s, v) {
+        return Err(Refused::Value);
     }
-    if s.len() == 3 {
-        return Admin {
-            answer: Answer::Done,
-            mode,
-            mnc: MncLength::Absent,
-        };
-    }
-    let n = low(s[3]);
-    if !two_or_three(n) {
-        return Admin {
-            answer: Answer::Value,
-            mode: 0,
-            mnc: MncLength::Absent,
-        };
-    }
-    Admin {
-        answer: Answer::Done,
-        mode,
-        mnc: MncLength::Digits(n),
-    }
+    Ok(v)
 }
 
 // Mode and MNC length into the lent file, whose other bits are kept.
-pub fn encode(mode: u8, mnc: MncLength, s: &mut [u8]) -> Answer
-    ensures { told result s.new ≡ encode (setting mode mnc) s.old }
+#[tactic(auto, unfolding(codings::specs::Answers::judge, codings::specs::Admin::encode, codings::specs::Admin::changed), using(crate::proofs::Laws::fits, std::proofs::lemmas::List::set_comm))]
+pub fn encode(v: Setting, s: &mut [u8]) -> Result<(), Refused>
+    ensures { told result s.new ≡ encode v s.old }
 {
     if s.len() < 3 {
-        return Answer::Length;
+        return Err(Refused::Length);
     }
-    if !is_mode(mode) {
-        return Answer::Value;
+    if !valid(s, v) {
+        return Err(Refused::Value);
     }
-    match mnc {
-        MncLength::Absent => {
-            if s.len() != 3 {
-                return Answer::Value;
-            }
-            s[0] = mode;
-            Answer::Done
-        }
-        MncLength::Digits(n) => {
-            if s.len() == 3 {
-                return Answer::Value;
-            }
-            if !two_or_three(n) {
-                return Answer::Value;
-            }
-            let b = 16 * high(s[3]) + n;
-            s[0] = mode;
-            s[3] = b;
-            Answer::Done
-        }
+    if let Some(n) = v.mnc {
+        s[3] = 16 * high(s[3]) + n;
     }
+    s[0] = v.mode;
+    Ok(())
 }

@@ -1,67 +1,61 @@
 // The card's own number: its digits read and written.
 #![tactic(auto)]
 
-ghost use Rattle.std.specs.Prelude.{◌≡◌, []};
-ghost use Rattle.codings.specs.Answers.{number, outcome, told};
-ghost use Rattle.codings.specs.Iccid.{Shows, decode, encode};
+ghost use Rattle.std.specs.Prelude.{◌≡◌, ◌<◌, [], length};
+ghost use Rattle.codings.specs.Answers.{told, decoded};
+ghost use Rattle.codings.specs.Iccid.{numbered, writable, decode, encode};
 
-use codings::Answer;
-use codings::iccid::Iccid;
+use codings::Refused;
+use fields::bytes::Bytes;
 use fields::halves::{pack, unpack};
-use fields::text::{closed, lead, place, put_text};
+use fields::text::{closed, lead, place};
 
-fn refused(answer: Answer) -> Iccid
-    ensures { Shows result (outcome (number answer) []) }
+// Whether halves are a number's: the first is a digit, and after the digits all is F.
+#[tactic(auto, unfolding(codings::specs::Iccid::numbered))]
+fn numbered(hs: &[u8]) -> bool
+    requires { 0 < length hs.now }
+    ensures { result ≡ numbered hs.now }
 {
-    Iccid {
-        answer,
-        digits: [0u8; 20],
-        count: 0,
-    }
+    hs[0] < 10 && closed(hs, 10, 15)
 }
 
 // The digits of a file.
-pub fn decode(s: &[u8]) -> Iccid
-    ensures { Shows result (decode s.now) }
+#[tactic(auto, unfolding(codings::specs::Answers::judge, codings::specs::Iccid::decode))]
+pub fn decode(s: &[u8]) -> Result<Bytes<20>, Refused>
+    ensures { decoded [] result ≡ decode s.now }
 {
     if s.len() != 10 {
-        return refused(Answer::Length);
+        return Err(Refused::Length);
     }
     let mut hs = [0u8; 20];
     unpack(s, &mut hs);
-    if hs[0] >= 10 {
-        return refused(Answer::Value);
+    if !numbered(&hs) {
+        return Err(Refused::Value);
     }
-    if !closed(&hs, 10, 15) {
-        return refused(Answer::Value);
-    }
-    let mut digits = [0u8; 20];
-    let count = put_text(&hs, 10, &mut digits);
-    Iccid {
-        answer: Answer::Done,
-        digits,
-        count,
-    }
+    Ok(Bytes::text(&hs, 10))
+}
+
+// Whether a file can hold them: 1 to 20 digits.
+#[tactic(auto, unfolding(codings::specs::Iccid::writable, fields::specs::Text::within))]
+fn writable(digits: &[u8]) -> bool
+    ensures { result ≡ writable digits.now }
+{
+    !digits.is_empty() && digits.len() <= 20 && lead(digits, 10) == digits.len()
 }
 
 // The file of these digits, in the lent room.
-pub fn encode(digits: &[u8], room: &mut [u8]) -> Answer
+#[tactic(auto, using(crate::proofs::Laws::joins), unfolding(codings::specs::Answers::judge, codings::specs::Iccid::encode, codings::specs::Iccid::writable, fields::specs::Text::placed))]
+pub fn encode(digits: &[u8], room: &mut [u8]) -> Result<(), Refused>
     ensures { told result room.new ≡ encode digits.now room.old }
 {
     if room.len() != 10 {
-        return Answer::Length;
+        return Err(Refused::Length);
     }
-    if digits.len() == 0 {
-        return Answer::Value;
-    }
-    if digits.len() > 20 {
-        return Answer::Value;
-    }
-    if lead(digits, 10) != digits.len() {
-        return Answer::Value;
+    if !writable(digits) {
+        return Err(Refused::Value);
     }
     let mut hs = [0u8; 20];
     place(digits, 15, &mut hs, 0);
     pack(&hs, room);
-    Answer::Done
+    Ok(())
 }

@@ -1,95 +1,76 @@
 // The subscriber's number: its digits read and written.
 #![tactic(auto)]
 
-ghost use Rattle.std.specs.Prelude.{◌≡◌, []};
-ghost use Rattle.codings.specs.Answers.{number, outcome, told};
-ghost use Rattle.codings.specs.Imsi.{Shows, mark, decode, encode};
+ghost use Rattle.std.specs.Prelude.{◌≡◌, [], length};
+ghost use Rattle.fields.specs.Halves.{halves};
+ghost use Rattle.codings.specs.Answers.{told, decoded};
+ghost use Rattle.codings.specs.Imsi.{mark, writable, decode, encode};
+ghost use Rattle.codings.specs.ImsiByCount.{numbered};
 
-use codings::Answer;
-use codings::imsi::Imsi;
+use codings::Refused;
+use fields::bytes::Bytes;
 use fields::halves::{pack, unpack};
-use fields::text::{closed, lead, place, put_text};
-
-fn refused(answer: Answer) -> Imsi
-    ensures { Shows result (outcome (number answer) []) }
-{
-    Imsi {
-        answer,
-        digits: [0u8; 15],
-        count: 0,
-    }
-}
-
-fn wide(b: u8) -> usize
-    ensures { result ≡ b }
-{
-    b as usize
-}
+use fields::text::{closed, lead, place};
 
 // The half before the first digit.
+#[tactic(auto, unfolding(codings::specs::Imsi::mark))]
 fn mark(count: usize) -> u8
     ensures { result ≡ mark count }
 {
-    if count % 2 == 1 {
-        return 9;
-    }
-    1
+    if count % 2 == 1 { 9 } else { 1 }
+}
+
+// Whether a file of these halves holds a number, by the count of its digits.
+fn numbered(s: &[u8], hs: &[u8; 18]) -> bool
+    requires long { length s.now ≡ 9 }
+    requires halves { hs.now ≡ halves s.now }
+    ensures { result ≡ numbered s.now }
+{
+    let field = &hs[3..];
+    let count = lead(field, 10);
+    closed(field, 10, 15) && count > 0 && usize::from(s[0]) == count / 2 + 1 && hs[2] == mark(count)
 }
 
 // The digits of a file.
-pub fn decode(s: &[u8]) -> Imsi
-    ensures { Shows result (decode s.now) }
+#[tactic(auto, unfolding(codings::specs::Answers::judge, codings::specs::ImsiByCount::decode, codings::specs::ImsiByCount::digits_in))]
+pub fn decode(s: &[u8]) -> Result<Bytes<15>, Refused>
+    ensures { decoded [] result ≡ decode s.now }
 {
     if s.len() != 9 {
-        return refused(Answer::Length);
+        return Err(Refused::Length);
     }
     let mut hs = [0u8; 18];
     unpack(s, &mut hs);
-    let field = &hs[3..];
-    if !closed(field, 10, 15) {
-        return refused(Answer::Value);
+    if !numbered(s, &hs) {
+        return Err(Refused::Value);
     }
-    let mut digits = [0u8; 15];
-    let count = put_text(field, 10, &mut digits);
-    if count == 0 {
-        return refused(Answer::Value);
-    }
-    if wide(s[0]) != count / 2 + 1 {
-        return refused(Answer::Value);
-    }
-    if hs[2] != mark(count) {
-        return refused(Answer::Value);
-    }
-    Imsi {
-        answer: Answer::Done,
-        digits,
-        count,
-    }
+    Ok(Bytes::text(&hs[3..], 10))
+}
+
+// Whether a file can hold them: 1 to 15 digits.
+#[tactic(auto, unfolding(codings::specs::Imsi::writable, fields::specs::Text::within))]
+fn writable(digits: &[u8]) -> bool
+    ensures { result ≡ writable digits.now }
+{
+    !digits.is_empty() && digits.len() <= 15 && lead(digits, 10) == digits.len()
 }
 
 // The file of these digits, in the lent room.
-pub fn encode(digits: &[u8], room: &mut [u8]) -> Answer
+#[tactic(auto, using(crate::proofs::Laws::first_byte, crate::proofs::Laws::joins), unfolding(codings::specs::Answers::judge, codings::specs::Imsi::encode, codings::specs::Imsi::writable, fields::specs::Text::placed))]
+pub fn encode(digits: &[u8], room: &mut [u8]) -> Result<(), Refused>
     ensures { told result room.new ≡ encode digits.now room.old }
 {
     if room.len() != 9 {
-        return Answer::Length;
+        return Err(Refused::Length);
+    }
+    if !writable(digits) {
+        return Err(Refused::Value);
     }
     let count = digits.len();
-    if count == 0 {
-        return Answer::Value;
-    }
-    if count > 15 {
-        return Answer::Value;
-    }
-    if lead(digits, 10) != count {
-        return Answer::Value;
-    }
-    let first = (count / 2 + 1) as u8;
-    let second = mark(count);
     let mut hs = [0u8; 18];
     place(digits, 15, &mut hs, 3);
-    hs[0] = first;
-    hs[2] = second;
+    hs[0] = (count / 2 + 1) as u8;
+    hs[2] = mark(count);
     pack(&hs, room);
-    Answer::Done
+    Ok(())
 }

@@ -2,34 +2,37 @@
 #![tactic(auto)]
 
 ghost use Rattle.std.specs.Prelude.{◌≡◌, ◌<◌};
-ghost use Rattle.codings.specs.Answers.{told};
+ghost use Rattle.codings.specs.Answers.{told, decoded};
 ghost use Rattle.codings.specs.Services.{unit, pair_of, said, says, changed, read, write};
+ghost use Rattle.codings.specs.declared.services.Service.TheVariants.{NotAllocated};
 
-use codings::Answer;
-use codings::services::{Look, Service};
+use codings::Refused;
+use codings::services::Service;
 
-const UNITS: [u8; 4] = [1, 4, 16, 64];
-
+// The value of the first bit of place i in its byte.
+#[tactic(auto, unfolding(codings::specs::Services::unit), using(crate::proofs::Laws::unit_fits))]
 fn unit(i: usize) -> u8
     ensures { result ≡ unit i }
 {
-    UNITS[i % 4]
+    4u8.pow((i % 4) as u32)
 }
 
 // What two bits say.
+#[tactic(auto, unfolding(codings::specs::Services::said))]
 fn said(p: u8) -> Service
     ensures { result ≡ said p }
 {
     if p % 2 == 0 {
-        return Service::NotAllocated;
+        Service::NotAllocated
+    } else if p / 2 == 0 {
+        Service::Allocated
+    } else {
+        Service::Activated
     }
-    if p / 2 == 0 {
-        return Service::Allocated;
-    }
-    Service::Activated
 }
 
 // The two bits that say so in the place of p.
+#[tactic(auto, unfolding(codings::specs::Services::says))]
 fn says(v: Service, p: u8) -> u8
     requires { p < 4 }
     ensures { (result ≡ says v p) × (result < 4) }
@@ -42,70 +45,55 @@ fn says(v: Service, p: u8) -> u8
 }
 
 // The two bits at place i of a byte.
+#[tactic(auto, unfolding(codings::specs::Services::pair_of), using(crate::proofs::Laws::some_unit))]
 fn pair_of(b: u8, i: usize) -> u8
     ensures { (result ≡ pair_of b i) × (result < 4) }
 {
-    let u = unit(i);
-    b / u % 4
+    b / unit(i) % 4
 }
 
 // The byte with the two bits at place i changed.
+#[tactic(auto, unfolding(codings::specs::Services::changed), using(crate::proofs::Laws::pair_part, crate::proofs::Laws::pair_fits, crate::proofs::Laws::byte_fits))]
 fn changed(b: u8, i: usize, v: Service) -> u8
     ensures { result ≡ changed b i v }
 {
     let u = unit(i);
     let p = pair_of(b, i);
-    let q = says(v, p);
-    b - p * u + q * u
+    b - p * u + says(v, p) * u
 }
 
 // What the table says of service n.
-pub fn read(s: &[u8], n: usize) -> Look
-    ensures { told result.answer result.service ≡ read s.now n }
+#[tactic(auto, unfolding(codings::specs::Answers::judge, codings::specs::Services::read))]
+pub fn read(s: &[u8], n: usize) -> Result<Service, Refused>
+    ensures { decoded NotAllocated result ≡ read s.now n }
 {
     if s.len() < 2 {
-        return Look {
-            answer: Answer::Length,
-            service: Service::NotAllocated,
-        };
+        return Err(Refused::Length);
     }
     if n == 0 {
-        return Look {
-            answer: Answer::Value,
-            service: Service::NotAllocated,
-        };
+        return Err(Refused::Value);
     }
     let i = n - 1;
-    let at = i / 4;
-    if at >= s.len() {
-        return Look {
-            answer: Answer::Done,
-            service: Service::NotAllocated,
-        };
-    }
-    let service = said(pair_of(s[at], i));
-    Look {
-        answer: Answer::Done,
-        service,
-    }
+    let b = s.get(i / 4).copied().unwrap_or(0);
+    Ok(said(pair_of(b, i)))
 }
 
 // Service n of the lent table; all other bits are kept.
-pub fn write(s: &mut [u8], n: usize, v: Service) -> Answer
+#[tactic(auto, unfolding(codings::specs::Answers::judge, codings::specs::Services::write))]
+pub fn write(s: &mut [u8], n: usize, v: Service) -> Result<(), Refused>
     ensures { told result s.new ≡ write s.old n v }
 {
     if s.len() < 2 {
-        return Answer::Length;
+        return Err(Refused::Length);
     }
     if n == 0 {
-        return Answer::Value;
+        return Err(Refused::Value);
     }
     let i = n - 1;
     let at = i / 4;
     if at >= s.len() {
-        return Answer::Value;
+        return Err(Refused::Value);
     }
-    let b = changed(s[at], i, v);
-    s[at] = b;
-    Answer::Done
+    s[at] = changed(s[at], i, v);
+    Ok(())
 }

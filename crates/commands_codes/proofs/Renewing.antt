@@ -1,25 +1,23 @@
--- Laws of the commands on codes: when two tests agree, each command by its test, and the two halves of what is sent.
+-- Laws of the commands on codes: when two tests agree, and each command by its test.
 use Prim.Native.Nat.{ℕ, ◌+◌, ◌-◌, ◌%◌}
-use mathlib.Core.Path.{◌≡◌, refl, sym, ap, subst, ◌∙◌}
+use mathlib.Core.Path.{◌≡◌, refl, sym, ap, ◌∙◌}
 use mathlib.Core.List.{List, []}
 use mathlib.Core.Bool.{Bool, true, false, not}
 use native.Mathlib.Omega.{arith}
-use lib.ListN.{length, take, drop, length-drop}
-use lib.Seq.{take-length, length-take-le}
+use lib.ListN.{length, drop, length-drop}
+use lib.Seq.{take_all}
 use borrow.Author.Tests.{eqb-true, eqb-false, not-false}
-use Rattle.card.specs.Bytes.{same}
+use Rattle.std.proofs.lemmas.Slice.Eq.{bytes_eq-Decides}
+use Rattle.card.specs.Bytes.{part, same}
 use Rattle.card.specs.Layout.{code_entry, disabled}
-use Rattle.card.specs.Answers.{Coded, unless, reply, coded}
+use Rattle.card.specs.Answers.{unless, reply, coded}
 use Rattle.card.specs.Sessions.{dropped, presents}
 use Rattle.card.specs.Codes.{Key, value, renewed, tested, verify, change, disable, enable, unblock}
 use Rattle.card.specs.declared.Code.{Code}
 use Rattle.card.specs.declared.Session.{Session}
-use Rattle.commands.specs.declared.answers.Reply.{Reply as Told}
-use Rattle.commands.specs.Gives.{Codes}
-use Rattle.parts.proofs.Comparing.{same_true}
-use Rattle.code_tests.specs.Keys.{untestable, Tried}
+use Rattle.code_tests.specs.Keys.{untestable}
+use Rattle.card.proofs.Tests.{compared}
 use Rattle.code_tests.proofs.Trials.{some}
-use Rattle.commands_codes.specs.Sized.{Sized}
 
 -- two choices that agree where the test holds
 agreeing : {A : Type 0} (t : Bool) (x y z : A) → (t ≡ true → x ≡ y)
@@ -28,67 +26,60 @@ agreeing true x y z h = h refl
 agreeing false x y z h = refl
 
 -- what the entry becomes matters only where nothing refuses and the code is right
-pub renewals : (e : List ℕ) (s : Session) (c : ℕ) (key : Key) (x : Bool) (given renewal other : List ℕ)
+renewals : (e : List ℕ) (s : Session) (c : ℕ) (key : Key) (x : Bool) (given renewal other : List ℕ)
     → (x ≡ false → same (value key e) given ≡ true → renewal ≡ other)
     → tested e s c key x given renewal ≡ tested e s c key x given other
 unfolding tested unless untestable
 renewals e s c key x given renewal other h =
     agreeing _ _ _ _ (λ q. agreeing _ _ _ _ (λ p. ap (λ (l : List ℕ). coded l (reply [] 0x9000 (presents c (dropped s)))) (h (some key (code_entry e 0) x (sym (eqb-true _ _ q))).1 p)))
 
-module _ (e : List ℕ) (s : Session) (c : ℕ) (given : List ℕ) (k : Code) (x : Bool) (t : Told) (to : List ℕ) (is : k ≡ code_entry e 0) where
-  abbrev was : Code
-  was = code_entry e 0
+module _ (e : List ℕ) (s : Session) (c : ℕ) (given : List ℕ) where
+  abbrev k : Code
+  k = code_entry e 0
 
-  -- the code that was right is the one that stands there
-  own : (f g u : ℕ) → f ≡ g → same (value Key.chv e) given ≡ true → renewed e f u given ≡ renewed e g u (value Key.chv e)
-  own f g u q p = simp (q, same_true (value Key.chv e) given p)
+  -- a code that is given alone
+  module _ (n : length given ≡ 8) where
+    all : part given 0 8 ≡ given
+    all = take_all 8 given (omega (arith, n))
 
-  -- each command by its test
-  pub verifies : x ≡ disabled k → Codes (tested e s c Key.chv x given (renewed e k.flags k.unblocks given)) t to → Codes (verify e s c given) t to
-  unfolding verify
-  verifies d = subst (λ (q : Coded). Codes q t to) ((simp (d, is)) ∙ renewals e s c Key.chv (disabled was) given _ _ (λ h p. own _ _ _ refl p))
+    -- where it was right, it is the one that stands there
+    own : (x : Bool) (f g : ℕ) → (x ≡ false → f ≡ g)
+        → tested e s c Key.chv x given (renewed e f k.unblocks (value Key.chv e))
+        ≡ tested e s c Key.chv x (part given 0 8) (renewed e g k.unblocks (part given 0 8))
+    own x f g q =
+        renewals e s c Key.chv x given (renewed e f k.unblocks (value Key.chv e)) (renewed e g k.unblocks given) (λ h p. simp (q h, (bytes_eq-Decides (value Key.chv e) given).0 (compared (value Key.chv e) given ∙ p)))
+        ∙ simp all
 
-  pub disables : (f : ℕ) → f ≡ k.flags - k.flags % 2 + 1 → x ≡ disabled k
-      → Codes (tested e s c Key.chv x given (renewed e f k.unblocks given)) t to
-      → Codes (disable e s c given) t to
-  unfolding disable
-  disables f r d =
-      subst (λ (q : Coded). Codes q t to)
-      ((simp (d, r, is)) ∙ renewals e s c Key.chv (disabled was) given _ _ (λ h p. own _ _ _ (even was.flags (eqb-false _ _ h)) p))
-    where
-      even : (n : ℕ) → (n % 2 ≡ 1 → ⊥) → n - n % 2 + 1 ≡ n + 1
-      even n h = omega arith
+    pub verified : verify e s c given ≡ tested e s c Key.chv (disabled k) (part given 0 8) (renewed e k.flags k.unblocks (part given 0 8))
+    unfolding verify
+    verified = own (disabled k) k.flags k.flags (λ h. refl)
 
-  pub enables : (f : ℕ) → f ≡ k.flags - k.flags % 2 → x ≡ not (disabled k)
-      → Codes (tested e s c Key.chv x given (renewed e f k.unblocks given)) t to
-      → Codes (enable e s c given) t to
-  unfolding enable
-  enables f r d =
-      subst (λ (q : Coded). Codes q t to)
-      ((simp (d, r, is)) ∙ renewals e s c Key.chv (not (disabled was)) given _ _ (λ h p. own _ _ _ (odd was.flags (eqb-true _ _ (not-false _ h))) p))
-    where
-      odd : (n : ℕ) → n % 2 ≡ 1 → n - n % 2 ≡ n - 1
-      odd n h = omega arith
+    pub is_disabled : disable e s c given
+        ≡ tested e s c Key.chv (disabled k) (part given 0 8) (renewed e (k.flags - k.flags % 2 + 1) k.unblocks (part given 0 8))
+    unfolding disable
+    is_disabled = own (disabled k) (k.flags + 1) (k.flags - k.flags % 2 + 1) (λ h. even k.flags (eqb-false _ _ h))
+      where
+        even : (n : ℕ) → (n % 2 ≡ 1 → ⊥) → n + 1 ≡ n - n % 2 + 1
+        even n h = omega arith
 
-  pub changes : (old new : List ℕ) → old ≡ take 8 given → new ≡ drop 8 given → x ≡ disabled k
-      → Codes (tested e s c Key.chv x old (renewed e k.flags k.unblocks new)) t to
-      → Codes (change e s c given) t to
-  unfolding change
-  changes old new o n d = subst (λ (q : Coded). Codes q t to) (simp (d, o, n, is))
+    pub is_enabled : enable e s c given
+        ≡ tested e s c Key.chv (not (disabled k)) (part given 0 8) (renewed e (k.flags - k.flags % 2) k.unblocks (part given 0 8))
+    unfolding enable
+    is_enabled = own (not (disabled k)) (k.flags - 1) (k.flags - k.flags % 2) (λ h. odd k.flags (eqb-true _ _ (not-false _ h)))
+      where
+        odd : (n : ℕ) → n % 2 ≡ 1 → n - 1 ≡ n - n % 2
+        odd n h = omega arith
 
-  pub unblocks : (old new : List ℕ) (f : ℕ) → old ≡ take 8 given → new ≡ drop 8 given → f ≡ k.flags - k.flags % 2
-      → Codes (tested e s c Key.unblocking false old (renewed e f 10 new)) t to
-      → Codes (unblock e s c given) t to
-  unfolding unblock
-  unblocks old new f o n r = subst (λ (q : Coded). Codes q t to) (simp (r, o, n, is))
+  -- a code that is given before a new one
+  module _ (n : length given ≡ 16) where
+    rest : part given 8 8 ≡ drop 8 given
+    rest = take_all 8 (drop 8 given) (omega (arith, n, length-drop 8 given))
 
--- the two halves of sixteen bytes
-pub half : (l : List ℕ) → length l ≡ 16 → length (take 8 l) ≡ 8
-half l h = length-take-le 8 l (omega arith)
+    pub changed : change e s c given ≡ tested e s c Key.chv (disabled k) (part given 0 8) (renewed e k.flags k.unblocks (part given 8 8))
+    unfolding change
+    changed = simp rest
 
-pub rest : (l : List ℕ) → take (length l - 8) (drop 8 l) ≡ drop 8 l
-rest l = ap (λ (n : ℕ). take n (drop 8 l)) (sym (length-drop 8 l)) ∙ take-length (drop 8 l)
-
-pub halves : (e l : List ℕ) → Sized e l 16 → Tried e (take 8 l) (take (length l - 8) (drop 8 l))
-halves e l h =
-    record { entry = h.entry; given = half l h.sent; new = ap length (rest l) ∙ length-drop 8 l ∙ ap (λ (n : ℕ). n - 8) h.sent }
+    pub unblocked : unblock e s c given
+        ≡ tested e s c Key.unblocking false (part given 0 8) (renewed e (k.flags - k.flags % 2) 10 (part given 8 8))
+    unfolding unblock
+    unblocked = simp rest

@@ -10,7 +10,7 @@ use borrow.Author.Tests.{eqb-true, ne_eqb}
 use Rattle.card.specs.Layout.{cyclic, counter}
 use Rattle.card.specs.Shelf.{all}
 use Rattle.card.specs.declared.Entry.{Entry}
-use Rattle.parts.proofs.Comparing.{both}
+use Rattle.card.proofs.Tests.{both}
 use Rattle.commands_records.proofs.Granted.{second}
 use Rattle.commands_increase.specs.Counts.{Counts}
 

@@ -2,8 +2,9 @@
 // crates call them.
 #![tactic(auto)]
 
-ghost use Rattle.std.specs.Prelude.{◌≡◌, ◌<◌};
-ghost use Rattle.card.specs.Marks.{invalidate, rehabilitate};
+ghost use Rattle.std.specs.Prelude.{◌≡◌, ℕ, false};
+ghost use Rattle.card.specs.Access.{barred};
+ghost use Rattle.card.specs.Marks.{mark, invalidate, rehabilitate};
 ghost use Rattle.commands.specs.Gives.{Marks};
 
 use access::shared;
@@ -18,32 +19,33 @@ pub struct Marked {
     pub status: u8,
 }
 
+// An act on the file's mark: where nothing refuses, its status becomes another one, which counts only where the mark does not stand in the way.
+#[tactic(auto, unfolding(card::specs::Answers::unless, commands::specs::Gives::brief))]
+fn mark(r: Rights, e: Entry, s: Session, a: Act, new: u8) -> Marked
+    ensures { (n : ℕ) → (barred e a ≡ false → new ≡ n) → Marks (mark r e s a n) result.reply result.status }
+{
+    if let Err(refused) = shared(r, e, a, true) {
+        return Marked {
+            reply: refusal(s, u16::from(refused)),
+            status: e.status,
+        };
+    }
+    Marked {
+        reply: silent(dropped(s), 0x9000),
+        status: new,
+    }
+}
+
 // Status b1 becomes 0.
 pub fn invalidate(r: Rights, e: Entry, s: Session) -> Marked
     ensures { Marks (invalidate r e s) result.reply result.status }
 {
-    let word = shared(r, e, Act::Invalidate, true);
-    if word != 0 {
-        let reply = refusal(s, word);
-        let was = e.status;
-        return Marked { reply, status: was };
-    }
-    let reply = silent(dropped(s), 0x9000);
-    let status = e.status - 1;
-    Marked { reply, status }
+    mark(r, e, s, Act::Invalidate, e.status & 0xfe)
 }
 
 // Status b1 becomes 1.
 pub fn rehabilitate(r: Rights, e: Entry, s: Session) -> Marked
     ensures { Marks (rehabilitate r e s) result.reply result.status }
 {
-    let word = shared(r, e, Act::Rehabilitate, true);
-    if word != 0 {
-        let reply = refusal(s, word);
-        let old = e.status;
-        return Marked { reply, status: old };
-    }
-    let reply = silent(dropped(s), 0x9000);
-    let status = e.status + 1;
-    Marked { reply, status }
+    mark(r, e, s, Act::Rehabilitate, e.status | 1)
 }

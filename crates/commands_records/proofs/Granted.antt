@@ -1,4 +1,5 @@
 -- What the commands take for granted follows from the shelf's rules and from a session that fits.
+use Rattle.std.specs.Prelude.{ℕ, Option, Some}
 use Prim.Native.Nat.{ℕ, ◌%◌, ◌≤◌, ◌<◌}
 use mathlib.Core.Path.{◌≡◌, sym, ap, ◌∙◌}
 use mathlib.Core.List.{List}
@@ -12,10 +13,8 @@ use Rattle.card.specs.Layout.{transparent, cyclic, records}
 use Rattle.card.specs.Shelf.{all, records_rule, top_rule}
 use Rattle.card.specs.Sessions.{pointed}
 use Rattle.card.specs.declared.Entry.{Entry}
-use Rattle.card.specs.declared.Pointer.{Pointer}
-use Rattle.card.specs.declared.Pointer.TheVariants.{At}
 use Rattle.commands_records.specs.Stands.{Recorded, Stands}
-use Rattle.parts.proofs.Comparing.{both}
+use Rattle.card.proofs.Tests.{both}
 
 -- the second of two tests, where the first fails
 pub second : (a b : Bool) → (a || b) ≡ true → a ≡ false → b ≡ true
@@ -43,14 +42,14 @@ recorded_by e h t =
       topmost = topmost (cyclic e) e.top (records e) some t;
     }
 
-within : (e : Entry) (p : Pointer) (k : ℕ) → pointed e p ≡ true → p ≡ At k → k ≤ records e
+within : (e : Entry) (p : Option ℕ) (k : ℕ) → pointed e p ≡ true → p ≡ Some k → k ≤ records e
 unfolding pointed
 within e p k h q =
-    let a : pointed e (At k) ≡ true = ap (pointed e) (sym q) ∙ h in
+    let a : pointed e (Some k) ≡ true = ap (pointed e) (sym q) ∙ h in
     leb-true k (records e) (both (not (transparent e) && ltb 0 k) (leb k (records e)) a).1
 
 -- the current file, its bytes and the pointer
-pub standing : (e : Entry) (b : List ℕ) (p : Pointer) → length b ≡ e.size → (transparent e || records_rule e) ≡ true → top_rule e ≡ true → pointed e p ≡ true
+pub standing : (e : Entry) (b : List ℕ) (p : Option ℕ) → length b ≡ e.size → (transparent e || records_rule e) ≡ true → top_rule e ≡ true → pointed e p ≡ true
     → Stands e b p
 standing e b p full rule top points =
     record { full = full; recorded = λ t. recorded_by e (second (transparent e) (records_rule e) rule t) top; pointed = λ k q. within e p k points q }

@@ -1,2 +1,2 @@
-pub mod Reaching
 pub mod Granted
+pub mod Reaching

@@ -1,20 +1,22 @@
 // READ RECORD and UPDATE RECORD, by value: on a file's entry, its bytes and a session. Each is the definition's function of its name. The
-// functions of this crate ask what was tested before, and only this player's crates call them.
+// functions of this crate ask what was tested before, and only this player's crates call them. `Stands` is in the contracts and in no type:
+// a file's bytes are lent to be read or to be written, which would take two types with the same fact.
 #![tactic(auto)]
 
-ghost use Rattle.std.specs.Prelude.{◌≡◌, ◌+◌, ◌-◌, ◌%◌, ◌≤◌, ◌<◌, length};
+ghost use Rattle.std.specs.Prelude.{◌≡◌, ◌+◌, ◌-◌, ◌%◌, ◌≤◌, ◌<◌, length, unwrap_or, IfOk};
 ghost use Rattle.card.specs.Answers.{first};
+ghost use Rattle.card.specs.Refused.{word_in};
 ghost use Rattle.card.specs.Layout.{records};
 ghost use Rattle.card.specs.Records.{next, previous, absolute, chosen, moved, record_at, of_record, read_record, updatable, update_record};
 ghost use Rattle.card.specs.Bytes.{splice};
 ghost use Rattle.commands.specs.Gives.{Gives, Writes};
-ghost use Rattle.commands_records.specs.Stands.{Recorded, Stands};
+ghost use Rattle.commands_records.specs.Stands.{Recorded, Stands, Fitting};
 
 use access::shared;
-use card::{Act, Entry, Pointer, Rights, Session};
+use card::{Act, Entry, Refused, Rights, Session};
 use commands::answers::{Reply, refusal, silent};
 use entries::records;
-use parts::{lay, low, put, wide, wide_word};
+use parts::{lay, put};
 use sessions::{dropped, points};
 
 // A reply, and the file's top afterwards.
@@ -24,118 +26,91 @@ pub struct Written {
     pub top: u8,
 }
 
-// The record after a pointer, from 1, and 0 where there is none; a cyclic file goes round.
-fn next(e: Entry, p: Pointer) -> usize
-    ensures { result ≡ next e p }
+// The record after a pointer; a cyclic file goes round.
+fn next(e: Entry, p: Option<usize>) -> Option<usize>
+    ensures { unwrap_or result 0 ≡ next e p }
 {
-    let Pointer::At(k) = p else {
-        return 1;
-    };
-    if k < records(e) {
-        return k + 1;
+    match p {
+        None => Some(1),
+        Some(k) if k < records(e) => Some(k + 1),
+        Some(_) => (e.structure == 3).then_some(1),
     }
-    if e.structure == 3 {
-        return 1;
-    }
-    0
 }
 
-fn previous(e: Entry, p: Pointer) -> usize
-    ensures { result ≡ previous e p }
+fn previous(e: Entry, p: Option<usize>) -> Option<usize>
+    ensures { unwrap_or result 0 ≡ previous e p }
 {
-    let Pointer::At(k) = p else {
-        return records(e);
-    };
-    if 1 < k {
-        return k - 1;
+    match p {
+        Some(k) if 1 < k => Some(k - 1),
+        Some(_) if e.structure != 3 => None,
+        _ => Some(records(e)),
     }
-    if e.structure == 3 {
-        return records(e);
-    }
-    0
 }
 
 // The record with a number, and the current one where the number is 0.
-fn absolute(e: Entry, n: usize, p: Pointer) -> usize
-    ensures { result ≡ absolute e n p }
+fn absolute(e: Entry, n: usize, p: Option<usize>) -> Option<usize>
+    ensures { unwrap_or result 0 ≡ absolute e n p }
 {
     if n == 0 {
-        let Pointer::At(k) = p else {
-            return 0;
-        };
-        return k;
+        return p;
     }
-    if n <= records(e) {
-        return n;
-    }
-    0
+    (n <= records(e)).then_some(n)
 }
 
-// The record that a mode chooses, and 0 where there is none.
-fn chosen(e: Entry, n: usize, mode: usize, p: Pointer) -> usize
-    ensures { result ≡ chosen e n mode p }
+// The record that a mode chooses.
+#[tactic(auto, unfolding(card::specs::Records::chosen))]
+fn chosen(e: Entry, n: usize, mode: usize, p: Option<usize>) -> Option<usize>
+    ensures { unwrap_or result 0 ≡ chosen e n mode p }
 {
-    if mode == 2 {
-        return next(e, p);
+    match mode {
+        2 => next(e, p),
+        3 => previous(e, p),
+        _ => absolute(e, n, p),
     }
-    if mode == 3 {
-        return previous(e, p);
-    }
-    absolute(e, n, p)
 }
 
 // Absolute and current leave the pointer.
 fn moved(mode: usize, k: usize, s: Session) -> Session
     ensures { result ≡ moved mode k s }
 {
-    if mode == 4 {
-        return s;
-    }
-    points(Pointer::At(k), s)
+    if mode == 4 { s } else { points(Some(k), s) }
 }
 
-// What is left of a number after n, which goes into it once at most: no division.
-fn round(x: usize, n: usize) -> usize
-    requires { x < n + n }
-    ensures { result ≡ x % n }
-{
-    if x < n {
-        return x;
-    }
-    x - n
-}
-
-// Where record k starts in the file's bytes. Only this player's crates call it.
+// Where record k starts in the file's bytes: a place past the last is one after the first. Only this player's crates call it.
+#[tactic(auto, using(crate::proofs::Reaching::places))]
 pub fn record_at(e: Entry, k: usize) -> usize
     requires recorded { Recorded e }
     requires k_nonzero { (0 < k) × (k ≤ records e + 1) }
     ensures { (result ≡ record_at e k) × (result + e.width ≤ e.size) }
 {
-    let top = wide(e.top);
-    let width = wide(e.width);
     let n = records(e);
-    round(top + k - 1, n) * width
+    let place = usize::from(e.top) + k - 1;
+    let round = if place < n { place } else { place - n };
+    round * usize::from(e.width)
 }
 
-// The word of the first refusal of record k with n bytes, and 0 where none holds.
-fn of_record(r: Rights, e: Entry, a: Act, suits: bool, k: usize, n: usize) -> u16
-    ensures { result ≡ first (of_record r e a suits k n) }
+// The first refusal of a record with n bytes, and else the record's number: it counts from 1.
+#[tactic(auto, using(access::proofs::Refusals::ordered), unfolding(card::specs::Records::of_record, card::specs::Answers::first))]
+fn of_record(
+    r: Rights,
+    e: Entry,
+    a: Act,
+    suits: bool,
+    k: Option<usize>,
+    n: usize,
+) -> Result<usize, Refused>
+    ensures refused { word_in result ≡ first (of_record r e a suits (unwrap_or k 0) n) }
+    ensures fitting { IfOk result (λ x. (x ≡ unwrap_or k 0) × Fitting e suits x n) }
 {
-    let word = shared(r, e, a, suits);
-    if word != 0 {
-        return word;
+    shared(r, e, a, suits)?;
+    if n != usize::from(e.width) {
+        return Err(Refused::Length(e.width));
     }
-    let width = wide(e.width);
-    if n != width {
-        return 0x6700 + low(e.width);
-    }
-    if k == 0 {
-        return 0x9402;
-    }
-    0
+    k.filter(|&k| k != 0).ok_or(Refused::OutOfRange)
 }
 
 // READ RECORD. Only this player's crates call it.
+#[tactic(auto, using(crate::proofs::Reaching::chosen_within), unfolding(card::specs::Records::read_record, card::specs::Answers::unless, commands::specs::Gives::brief))]
 pub fn read_record(
     r: Rights,
     e: Entry,
@@ -150,17 +125,14 @@ pub fn read_record(
     requires n_in_bounds { n ≤ length room.old }
     ensures { Gives (read_record r e b.now s number mode n) result room.old room.new }
 {
-    let pointer = s.pointer;
-    let k = chosen(e, number, mode, pointer);
-    let word = of_record(r, e, Act::Read, e.structure != 0, k, n);
-    if word != 0 {
-        return refusal(s, word);
-    }
-    let at = record_at(e, k);
-    lay(b, at, n, room);
-    let session = moved(mode, k, dropped(s));
+    let k = chosen(e, number, mode, s.pointer);
+    let k = match of_record(r, e, Act::Read, e.structure != 0, k, n) {
+        Ok(k) => k,
+        Err(refused) => return refusal(s, u16::from(refused)),
+    };
+    lay(b, record_at(e, k), n, room);
     Reply {
-        session,
+        session: moved(mode, k, dropped(s)),
         word: 0x9000,
         count: n,
     }
@@ -170,7 +142,7 @@ pub fn read_record(
 fn updatable(mode: usize, e: Entry) -> bool
     ensures { result ≡ updatable mode e }
 {
-    (e.structure != 0) & ((e.structure != 3) | (mode == 3))
+    e.structure != 0 && (e.structure != 3 || mode == 3)
 }
 
 // A cyclic file's oldest record is overwritten and becomes record 1: the top afterwards. Only this player's crates call it.
@@ -181,13 +153,12 @@ pub fn push(e: Entry, b: &mut [u8], new: &[u8]) -> u8
         × (result ≡ (e.top + records e - 1) % records e) }
 {
     let n = records(e);
-    let at = record_at(e, n);
-    put(b, at, new);
-    let top = (wide(e.top) + n - 1) % n;
-    top as u8
+    put(b, record_at(e, n), new);
+    ((usize::from(e.top) + n - 1) % n) as u8
 }
 
 // UPDATE RECORD. Only this player's crates call it.
+#[tactic(auto, using(crate::proofs::Reaching::chosen_within), unfolding(card::specs::Records::update_record, card::specs::Answers::unless, commands::specs::Gives::brief))]
 pub fn update_record(
     r: Rights,
     e: Entry,
@@ -200,20 +171,26 @@ pub fn update_record(
     requires { Stands e b.old s.pointer }
     ensures { Writes (update_record r e b.old s number mode new.now) result.reply b.new result.top }
 {
-    let pointer = s.pointer;
-    let k = chosen(e, number, mode, pointer);
-    let word = of_record(r, e, Act::Update, updatable(mode, e), k, new.len());
-    if word != 0 {
-        let reply = refusal(s, word);
-        return Written { reply, top: e.top };
-    }
+    let k = chosen(e, number, mode, s.pointer);
+    let k = match of_record(r, e, Act::Update, updatable(mode, e), k, new.len()) {
+        Ok(k) => k,
+        Err(refused) => {
+            return Written {
+                reply: refusal(s, u16::from(refused)),
+                top: e.top,
+            };
+        }
+    };
     if e.structure == 3 {
         let top = push(e, b, new);
-        let reply = silent(points(Pointer::At(1), dropped(s)), 0x9000);
-        return Written { reply, top };
+        return Written {
+            reply: silent(points(Some(1), dropped(s)), 0x9000),
+            top,
+        };
     }
-    let at = record_at(e, k);
-    put(b, at, new);
-    let reply = silent(moved(mode, k, dropped(s)), 0x9000);
-    Written { reply, top: e.top }
+    put(b, record_at(e, k), new);
+    Written {
+        reply: silent(moved(mode, k, dropped(s)), 0x9000),
+        top: e.top,
+    }
 }

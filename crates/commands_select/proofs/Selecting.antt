@@ -14,7 +14,7 @@ use Rattle.card.specs.declared.Session.{Session}
 use Rattle.commands.specs.declared.answers.Reply.{Reply as Told}
 use Rattle.card.specs.Answers.{laid}
 use Rattle.commands.specs.Gives.{brief, Gives}
-use Rattle.access.proofs.Refusals.{indeed, otherwise}
+use Rattle.card.proofs.Tests.{indeed, otherwise}
 
 -- where the number asked for is not refused, it is no more than what waits
 latter : (a b : Bool) → (a || b) ≡ false → b ≡ false

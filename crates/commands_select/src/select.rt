@@ -5,7 +5,7 @@ ghost use Rattle.card.specs.Select.{directory_response, tell_status, get_respons
 ghost use Rattle.card.specs.Sessions.{waits, enters};
 ghost use Rattle.commands.specs.Gives.{brief, Gives};
 
-use card::{Current, Pointer, Session};
+use card::{Refused, Session};
 use commands::answers::{Reply, refusal, silent};
 use parts::lay;
 use sessions::{dropped, enters, waits_padded};
@@ -16,16 +16,14 @@ pub fn get_response(s: Session, n: usize, room: &mut [u8]) -> Reply
     ensures { Gives (get_response s n) result room.old room.new }
 {
     if s.count == 0 {
-        return refusal(s, 0x6f00);
+        return refusal(s, u16::from(Refused::NothingWaits));
     }
     if (n == 0) | (s.count < n) {
-        return silent(s, 0x6700 + s.count as u16);
+        return silent(s, u16::from(Refused::Length(s.count as u8)));
     }
-    let waiting = s.waiting;
-    lay(&waiting, 0, n, room);
-    let session = dropped(s);
+    lay(&s.waiting, 0, n, room);
     Reply {
-        session,
+        session: dropped(s),
         word: 0x9000,
         count: n,
     }
@@ -38,16 +36,22 @@ pub fn tell_status(told: [u8; 26], s: Session, n: usize, room: &mut [u8]) -> Rep
         → Gives (tell_status h s n) result room.old room.new }
 {
     lay(&told, 4, n, room);
-    let session = dropped(s);
     Reply {
-        session,
+        session: dropped(s),
         word: 0x9000,
         count: n,
     }
 }
 
 // What SELECT found is entered, and the first n of these 22 bytes on it wait; the others are zeros. Only this player's crates call it.
-pub fn selected(d: usize, c: Current, p: Pointer, told: &[u8], n: usize, s: Session) -> Reply
+pub fn selected(
+    d: usize,
+    c: Option<usize>,
+    p: Option<usize>,
+    told: &[u8],
+    n: usize,
+    s: Session,
+) -> Reply
     requires { (length told.now ≡ 22) × (n ≤ 22) }
     ensures { (l : List ℕ) → length l ≡ n → told.now ≡ l ++ replicate (22 - n) 0
         → result ≡ brief (reply [] (0x9f00 + n) (waits l (enters d c p s))) }

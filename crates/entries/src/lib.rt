@@ -1,7 +1,7 @@
 // Words and entries of an image whose bytes are all there, where no byte's place is tested, and what an entry says of its records. Only this player's crates call these.
 #![tactic(auto)]
 
-ghost use Rattle.std.specs.Prelude.{◌≡◌, ◌+◌, ◌*◌, ◌≤◌, length};
+ghost use Rattle.std.specs.Prelude.{◌≡◌, ◌+◌, ◌≤◌, length};
 ghost use Rattle.card.specs.Bytes.{word};
 ghost use Rattle.card.specs.Layout.{code_entry, directory_entry, file_entry, records};
 
@@ -12,19 +12,12 @@ pub const CHV1: usize = 2;
 
 pub const CHV2: usize = 22;
 
-// Two bytes, high byte first.
-fn join(high: u8, low: u8) -> u16
-    ensures { result ≡ high * 256 + low }
-{
-    (high as u16) * 256 + (low as u16)
-}
-
-// The two bytes at a place. Only this player's crates call it.
+// The two bytes at a place, high byte first. Only this player's crates call it.
 pub fn word(l: &[u8], at: usize) -> u16
     requires { at + 2 ≤ length l.now }
     ensures { result ≡ word l.now at }
 {
-    join(l[at], l[at + 1])
+    u16::from_be_bytes([l[at], l[at + 1]])
 }
 
 // The code's entry at a place, but for the two codes themselves. Only this player's crates call it.
@@ -83,5 +76,5 @@ pub fn records(e: Entry) -> usize
     if e.width == 0 {
         return 0;
     }
-    (e.size as usize) / (e.width as usize)
+    usize::from(e.size) / usize::from(e.width)
 }

@@ -1,6 +1,6 @@
-// Halves of bytes, and fields that hold a text and filler. What they mean is the definition, in specs/.
+// Halves of bytes, fields that hold a text and filler, and bytes with their count. What they mean is the definition, in specs/.
 #![tactic(auto)]
 
+pub mod bytes;
 pub mod halves;
-mod table;
 pub mod text;

@@ -10,8 +10,7 @@ use borrow.Author.Tests.{eqb-true, eqb-false, ltb-true, ltb-false}
 use Rattle.card.specs.Answers.{Refusal, first, ◌says◌}
 use Rattle.card.specs.Forms.{form_of, formed, sent, seek_mode, code_number, exactly, up_to}
 use Rattle.card.specs.declared.Instruction.{Instruction}
-use Rattle.card.proofs.Tests.{both, one_of}
-use Rattle.access.proofs.Refusals.{indeed}
+use Rattle.card.proofs.Tests.{both, one_of, indeed}
 
 -- three refusals of which none holds
 clear : (a b : Bool) (r : Refusal) → first (a says 0x6d00 ∷ b says 0x6b00 ∷ r ∷ []) ≡ 0 → (b ≡ false) × (first (r ∷ []) ≡ 0)

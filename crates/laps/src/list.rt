@@ -1,90 +1,48 @@
 // A list of commands in one slice, each after its two-byte count.
-ghost use Rattle.std.specs.Prelude.{◌<◌, ◌≤◌, length};
+ghost use Rattle.std.specs.Prelude.{◌+◌, ◌<◌, ◌≤◌, ◌≡◌, length, IfSome, MatchOption};
 
 use streams::input;
 
-// Where a command's bytes stand.
-#[derive(Clone, Copy)]
-pub struct Span {
-    pub from: usize,
-    pub end: usize,
-}
-
-fn least(a: usize, b: usize) -> usize
-    ensures { (result ≤ a) × (result ≤ b) }
+// The first command of a list and the list after it; nothing where the list is empty. A list that is cut ends where it is cut.
+pub fn split_first(list: &[u8]) -> Option<(&[u8], &[u8])>
+    ensures { MatchOption result (length list.now ≡ 0) (λ parts. length parts.0.now + length parts.1.now < length list.now) }
 {
-    if a < b { a } else { b }
-}
-
-// The command whose count stands at a place. A list that is cut ends where it is cut. Only this program calls it.
-pub fn command_at(list: &[u8], at: usize) -> Span
-    requires { at < length list.now }
-    ensures { (at < result.from) × ((result.from ≤ result.end) × (result.end ≤ length list.now)) }
-{
-    let all = list.len();
-    if all - at < 2 {
-        return Span {
-            from: all,
-            end: all,
-        };
+    if list.is_empty() {
+        return None;
     }
-    let from = at + 2;
-    let n = input::join(list[at], list[at + 1]);
-    let end = from + least(n, all - from);
-    Span { from, end }
+    let Some((count, rest)) = list.split_first_chunk::<2>() else {
+        return Some((&[], &[]));
+    };
+    let count = usize::from(u16::from_be_bytes(*count));
+    Some(rest.split_at(count.min(rest.len())))
 }
 
-// Whether what was asked came, and where it ends.
-#[derive(Clone, Copy)]
-pub struct Place {
-    pub came: bool,
-    pub end: usize,
-}
-
-// Reads so many bytes to a place of the list; more than it holds do not come.
-fn read_to(list: &mut [u8], at: usize, n: usize) -> Place
+// Reads so many bytes to a place of the list, and tells where they end; more than it holds do not come.
+fn read_to(list: &mut [u8], at: usize, n: usize) -> Option<usize>
     requires { at ≤ length list.old }
-    ensures { result.end ≤ length list.old }
+    ensures { IfSome result (λ end. (at + n ≡ end) × (end ≤ length list.old)) }
 {
-    if list.len() - at < n {
-        return Place {
-            came: false,
-            end: at,
-        };
-    }
-    let end = at + n;
-    let came = input::fill(&mut list[at..end]);
-    Place { came, end }
+    input::fill(list[at..].get_mut(..n)?)?;
+    Some(at + n)
 }
 
-// Reads one command to a place of the list, with its count.
-fn read_one(list: &mut [u8], at: usize) -> Place
+// Reads one command to a place of the list, with its count, and tells where it ends.
+fn read_one(list: &mut [u8], at: usize) -> Option<usize>
     requires { at ≤ length list.old }
-    ensures { result.end ≤ length list.old }
+    ensures { IfSome result (λ end. end ≤ length list.old) }
 {
-    let p = read_to(list, at, 2);
-    if !p.came {
-        return p;
-    }
-    if list.len() - at < 2 {
-        return p;
-    }
-    let n = input::join(list[at], list[at + 1]);
-    read_to(list, at + 2, n)
+    let from = read_to(list, at, 2)?;
+    let count = input::join(list[at], list[at + 1]);
+    read_to(list, from, count)
 }
 
-// Reads n commands.
-pub fn read_all(list: &mut [u8], n: usize) -> Place
-    ensures { result.end ≤ length list.old }
+// Reads n commands, and tells where they end.
+pub fn read_all(list: &mut [u8], n: usize) -> Option<usize>
+    ensures { IfSome result (λ end. end ≤ length list.old) }
 {
-    let mut p = Place { came: true, end: 0 };
-    let mut k = 0;
-    while k < n {
-        p = read_one(list, p.end);
-        if !p.came {
-            return p;
-        }
-        k += 1;
+    let mut end = 0;
+    for _ in 0..n {
+        end = read_one(list, end)?;
     }
-    p
+    Some(end)
 }

@@ -11,7 +11,7 @@ ghost use Rattle.std.specs.Prelude.{◌≡◌, ◌≤◌, true, length};
 ghost use Rattle.acts.specs.Ready.{Ready};
 
 use card::Session;
-use streams::{input, short_input};
+use streams::{input, print, short_input};
 
 // The sum so far and the session.
 #[derive(Clone, Copy)]
@@ -26,17 +26,12 @@ fn play_list(known: bool, image: &mut [u8], lap: Lap, list: &[u8], room: &mut [u
 {
     let mut session = lap.session;
     let mut sum = lap.sum;
-    let mut at = 0;
-    while at < list.len() {
-        let s = list::command_at(list, at);
-        let from = s.from;
-        let end = s.end;
-        let played = runs::play_on(known, image, session, &list[from..end], room);
-        let answer = played.answer;
-        let count = played.count;
-        sum = sums::with_answer(sum, answer, &room[..count]);
+    let mut rest = list;
+    while let Some((command, after)) = list::split_first(rest) {
+        let played = runs::play_on(known, image, session, command, room);
+        sum = sums::with_answer(sum, played.answer, &room[..played.count]);
         session = played.session;
-        at = end;
+        rest = after;
     }
     Lap { sum, session }
 }
@@ -45,78 +40,51 @@ fn play_list(known: bool, image: &mut [u8], lap: Lap, list: &[u8], room: &mut [u
 fn start(once: bool, image: &[u8], session: Session) -> bool
     ensures { result ≡ true → Ready image.now session }
 {
-    if once {
-        return runs::tested(image, session);
-    }
-    false
+    once && runs::tested(image, session)
 }
 
 // All laps.
 fn play_laps(once: bool, laps: usize, image: &mut [u8], list: &[u8]) -> u32 {
     let mut room = [0u8; 258];
     let session = runs::reset();
-    let mut t = Lap { sum: 0, session };
-    let mut k = 0;
-    while k < laps {
-        let session = t.session;
-        let known = start(once, image, session);
-        t = play_list(known, image, t, list, &mut room);
-        k += 1;
+    let mut lap = Lap { sum: 0, session };
+    for _ in 0..laps {
+        let known = start(once, image, lap.session);
+        lap = play_list(known, image, lap, list, &mut room);
     }
-    t.sum
+    lap.sum
 }
 
-// The line of both sums.
-fn tell(answers: u32, image: u32) {
-    let mut text = [0u8; 64];
-    let n = sums::spell(&mut text, answers, image);
-    streams::write(&text[..n]);
-}
-
-// Reads the list into its space and plays the laps.
-fn play_in(mode: u8, laps: usize, image: &mut [u8], space: &mut [u8]) {
-    let n = input::read_count();
-    if !n.came {
-        short_input();
-        return;
-    }
-    let read = list::read_all(space, n.value);
-    if !read.came {
-        short_input();
-        return;
-    }
-    let end = read.end;
-    let answers = play_laps(mode != 0, laps, image, &space[..end]);
-    tell(answers, sums::of_image(image));
+// Reads the list into its space, plays the laps and tells both sums; nothing where the input ends before.
+fn play_in(once: bool, laps: usize, image: &mut [u8], space: &mut [u8]) -> Option<()> {
+    let n = input::read_count()?;
+    let end = list::read_all(space, n)?;
+    let answers = play_laps(once, laps, image, &space[..end]);
+    let image = sums::of_image(image);
+    print::<64, _>(format_args!("{answers} {image}\n"));
+    Some(())
 }
 
 // Reads the image and goes on to the list.
-fn play_image(mode: u8, laps: usize, space: &mut [u8])
+fn play_image(once: bool, laps: usize, space: &mut [u8]) -> Option<()>
     requires { 65536 ≤ length space.old }
 {
-    let m = input::read_count();
-    let n = m.value;
-    if !m.came {
-        short_input();
-        return;
-    }
-    let image = &mut space[..n];
-    if !input::fill(image) {
-        short_input();
-        return;
-    }
+    let image = input::read_counted(space)?;
     let mut list = [0u8; 262144];
-    play_in(mode, laps, image, &mut list);
+    play_in(once, laps, image, &mut list)
+}
+
+// Plays all of standard input.
+fn play() -> Option<()> {
+    let mut mode = [0u8; 1];
+    input::fill(&mut mode)?;
+    let laps = input::read_count()?;
+    let mut space = [0u8; 65536];
+    play_image(mode[0] != 0, laps, &mut space)
 }
 
 fn main() {
-    let mut mode = [0u8; 1];
-    let came = input::fill(&mut mode);
-    let laps = input::read_count();
-    if !(came & laps.came) {
+    if play().is_none() {
         short_input();
-        return;
     }
-    let mut space = [0u8; 65536];
-    play_image(mode[0], laps.value, &mut space);
 }

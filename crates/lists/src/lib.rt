@@ -10,7 +10,6 @@ ghost use Rattle.lists.specs.Runs.{Runs};
 
 use card::Session;
 use entries::word;
-use parts::wide_word;
 use player::Played;
 
 // How a list of commands ends: how many were played, how many bytes of the answers were written, and the session afterwards.
@@ -30,7 +29,7 @@ fn whole(commands: &[u8], at: usize) -> bool
     if left < 2 {
         return false;
     }
-    2 + wide_word(word(commands, at)) <= left
+    2 + usize::from(word(commands, at)) <= left
 }
 
 // Plays a command and tells of it in 261 bytes: the response is laid after the first three, which are told then.
@@ -48,11 +47,9 @@ fn step(
     ensures stays_ready { known ≡ true → Ready image.new result.session }
 {
     let played = runs::play_on(known, image, session, command, &mut answer[3..]);
-    let host = played.answer;
-    let count = played.count;
-    answer[0] = runs::number(host);
-    answer[1] = (count / 256) as u8;
-    answer[2] = (count % 256) as u8;
+    answer[0] = u8::from(played.answer);
+    answer[1] = (played.count / 256) as u8;
+    answer[2] = (played.count % 256) as u8;
     played
 }
 
@@ -71,30 +68,25 @@ pub fn run(image: &mut [u8], session: Session, commands: &[u8], n: usize, answer
         session,
     };
     let mut at = 0;
-    while ran.played < n {
-        let written = ran.written;
-        let until = written + 261;
+    for played in 0..n {
+        let until = ran.written + 261;
         if !(whole(commands, at) & (until <= answers.len())) {
             return ran;
         }
         let from = at + 2;
-        at = from + wide_word(word(commands, at));
-        let session = ran.session;
+        at = from + usize::from(word(commands, at));
         let done = step(
             known,
             image,
-            session,
+            ran.session,
             &commands[from..at],
-            &mut answers[written..until],
+            &mut answers[ran.written..until],
         );
-        let played = ran.played + 1;
         let told = 3 + done.count;
-        let written = written + told;
-        let session = done.session;
         ran = Ran {
-            played,
-            written,
-            session,
+            played: played + 1,
+            written: ran.written + told,
+            session: done.session,
         };
     }
     ran

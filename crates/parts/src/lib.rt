@@ -5,25 +5,26 @@ ghost use Rattle.std.specs.Prelude.{◌≡◌, ◌+◌, ◌≤◌, ◌<◌, leng
 ghost use Rattle.card.specs.Bytes.{part, splice};
 ghost use Rattle.card.specs.Answers.{laid};
 
-// A byte as a number that sums and products take.
+// A byte as a number that sums and products take. This and the next two do what the library's `from` does: they stay since they are promised
+// by their names (docs/PROMISES.md).
 pub fn wide(b: u8) -> usize
     ensures { (result ≡ b) × (result < 256) }
 {
-    b as usize
+    usize::from(b)
 }
 
 // Two bytes as such a number.
 pub fn wide_word(w: u16) -> usize
     ensures { (result ≡ w) × (result < 65536) }
 {
-    w as usize
+    usize::from(w)
 }
 
 // A byte as the low byte of a status word.
 pub fn low(b: u8) -> u16
     ensures { (result ≡ b) × (result < 256) }
 {
-    b as u16
+    u16::from(b)
 }
 
 // The first bytes of the room become n bytes of a file. Only this player's crates call it.

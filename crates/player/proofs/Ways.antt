@@ -1,10 +1,11 @@
 -- The ways out of `perform` and `play`, as the tests of the code find them.
 use Prim.Native.Nat.{ℕ, ◌-◌, ◌≤◌, ◌<◌}
-use mathlib.Core.Path.{◌≡◌, refl, sym, ap, subst, ◌∙◌}
+use mathlib.Core.Path.{◌≡◌, refl, ap, subst}
 use mathlib.Core.List.{List, []}
-use mathlib.Core.Bool.{Bool, true, false}
+use mathlib.Core.Bool.{Bool, true, false, false≢true}
 use lib.ListN.{length, drop, length-drop}
 use borrow.Author.Tests.{eq-eqb, ne_eqb, lt-ltb, le-ltb}
+use Rattle.std.specs.Prelude.{Result, Ok, Err}
 use Rattle.card.specs.Answers.{first, reply, refusal}
 use Rattle.card.specs.Bytes.{byte}
 use Rattle.card.specs.Forms.{formed, sent, instruction_of}
@@ -13,12 +14,15 @@ use Rattle.card.specs.Play.{Outcome, act, opened, told, done, declined, perform_
 use Rattle.card.specs.Sessions.{fits}
 use Rattle.card.specs.Shelf.{is_image}
 use Rattle.card.specs.declared.Answer.{Answer}
+use Rattle.card.specs.Refused.{word_of}
+use Rattle.card.specs.declared.Refused.{Refused}
+use Rattle.access.proofs.Refusals.{some_word}
 use Rattle.card.specs.declared.Answer.TheVariants.{Played as Done, NotAnImage, DoesNotFit, RoomTooSmall, WrongLength}
 use Rattle.card.specs.declared.Instruction.{Instruction}
 use Rattle.card.specs.declared.Session.{Session}
 use Rattle.acts.specs.Ready.{Ready}
 use Rattle.shelf_check.specs.Examined.{answer_of, examined}
-use Rattle.shelf_check.proofs.Examining.{both_hold}
+use Rattle.shelf_check.proofs.Examining.{passes, both_hold}
 use Rattle.player.specs.declared.Played.{Played}
 use Rattle.player.specs.Ends.{Ends}
 
@@ -31,37 +35,43 @@ module _ (i : Instruction) (l : List ℕ) (s : Session) (c : List ℕ) where
   unfolding perform_as
   wrong_class h = simp (perform_as, ne_eqb _ _ h)
 
-  module _ (h : byte c 0 ≡ 0xa0) (w : ℕ) (e : w ≡ first (formed i (byte c 2) (byte c 3) (byte c 4))) where
-    pub wrong_form : (w ≡ 0 → ⊥) → told l (refusal s w) ≡ perform_as i l s c
+  module _ (h : byte c 0 ≡ 0xa0) where
+    pub wrong_form : (k : Refused) → word_of k ≡ first (formed i (byte c 2) (byte c 3) (byte c 4))
+        → told l (refusal s (word_of k)) ≡ perform_as i l s c
     unfolding perform_as
-    wrong_form z = simp (perform_as, eq-eqb _ _ h, ← e, ne_eqb _ _ z)
+    wrong_form k e = simp (perform_as, eq-eqb _ _ h, ← e, ne_eqb _ _ (some_word k))
 
-    module _ (z : w ≡ 0) (n : ℕ) (q : n ≡ sent i (byte c 4)) where
+    module _ (e : 0 ≡ first (formed i (byte c 2) (byte c 3) (byte c 4))) (n : ℕ) (q : n ≡ sent i (byte c 4)) where
       pub wrong_length : (length c - 5 ≡ n → ⊥) → declined WrongLength l s ≡ perform_as i l s c
       unfolding perform_as
-      wrong_length m = simp (perform_as, eq-eqb _ _ h, ← e, eq-eqb _ _ z, ← q, length-drop, ne_eqb _ _ m)
+      wrong_length m = simp (perform_as, eq-eqb _ _ h, ← e, eq-eqb 0 0 refl, ← q, length-drop, ne_eqb _ _ m)
 
       pub performed : length c - 5 ≡ n
           → done l s.current (act i (head l) (opened l s.current) s (byte c 2) (byte c 3) (byte c 4) (drop 5 c)) ≡ perform_as i l s c
       unfolding perform_as
-      performed m = simp (perform_as, eq-eqb _ _ h, ← e, eq-eqb _ _ z, ← q, length-drop, eq-eqb _ _ m)
+      performed m = simp (perform_as, eq-eqb _ _ h, ← e, eq-eqb 0 0 refl, ← q, length-drop, eq-eqb _ _ m)
 
 pub by_name : (l : List ℕ) (s : Session) (c : List ℕ) (i : Instruction) → i ≡ instruction_of (byte c 1) → perform_as i l s c ≡ perform l s c
 unfolding perform
 by_name l s c i e = ap (λ (x : Instruction). perform_as x l s c) e
 
+-- the answer of an examination
+abbrev fault : Result (Unit {0}) Answer → Answer
+fault (Ok x) = Done
+fault (Err a) = a
+
 module _ (l : List ℕ) (s : Session) (c : List ℕ) (n : ℕ) where
   -- an examination that finds a fault has play's answer
-  pub stopped : (a : Answer) → a ≡ examined l s → (a ≡ Done → ⊥) → declined a l s ≡ play l s c n
+  pub stopped : (a : Answer) → Err a ≡ examined l s → declined a l s ≡ play l s c n
   unfolding examined play
-  stopped a e other = ap (λ (x : Answer). declined x l s) e ∙ go (is_image l) (fits (head l) s) _ (λ k. other (e ∙ k))
+  stopped a = go (is_image l) (fits (head l) s) _
     where
-      go : (b f : Bool) (o : Outcome) → (answer_of b f ≡ Done → ⊥)
-          → declined (answer_of b f) l s
+      go : (b f : Bool) (o : Outcome) → Err a ≡ answer_of b f
+          → declined a l s
           ≡ elim b [ false ↦ declined NotAnImage l s | true ↦ elim f [ false ↦ declined DoesNotFit l s | true ↦ o ] ]
-      go true true o k = absurd (k refl)
-      go true false o k = refl
-      go false f o k = refl
+      go true true o e = absurd (false≢true (ap passes e))
+      go true false o e = ap (λ (x : Answer). declined x l s) (ap fault e)
+      go false f o e = ap (λ (x : Answer). declined x l s) (ap fault e)
 
   module _ (r : Ready l s) where
     pub no_room : n < 258 → declined RoomTooSmall l s ≡ play l s c n
@@ -77,5 +87,5 @@ module _ (l : List ℕ) (s : Session) (c : List ℕ) (n : ℕ) where
     onward h k = simp (play, r.image, r.session, le-ltb _ _ h, le-ltb _ _ k)
 
 -- one that finds none says what a command asks
-pub ready : {l : List ℕ} {s : Session} {a : Answer} → a ≡ examined l s → a ≡ Done → Ready l s
-ready {l} {s} e d = let h = both_hold l s (sym d ∙ e) in record { image = h.0; session = h.1 }
+pub ready : {l : List ℕ} {s : Session} → Ok tt ≡ examined l s → Ready l s
+ready {l} {s} e = let h = both_hold l s e in record { image = h.0; session = h.1 }

@@ -12,7 +12,8 @@ use card::{Answer, Session};
 use perform::decline;
 use shelf_check::examine;
 
-// How a command ends: the host's answer, how many bytes of the room are the response, and the session afterwards.
+// How a command ends: the host's answer, how many bytes of the room are the response, and the session afterwards. An answer beside a count
+// and no `Result`: the definition's outcome has both for each of its five answers, and every caller tells both.
 #[derive(Clone, Copy)]
 pub struct Played {
     pub answer: Answer,
@@ -48,10 +49,9 @@ pub fn play(image: &mut [u8], session: Session, command: &[u8], room: &mut [u8])
     ensures { Ends (play image.old session command.now (length room.old))
         result image.new room.old room.new }
 {
-    let answer = examine(image, session);
-    match answer {
-        Answer::Played => play_ready(image, session, command, room),
-        _ => decline(answer, session),
+    match examine(image, session) {
+        Ok(()) => play_ready(image, session, command, room),
+        Err(answer) => decline(answer, session),
     }
 }
 

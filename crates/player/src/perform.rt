@@ -11,8 +11,7 @@ use crate::Played;
 use acting::act;
 use card::{Answer, Instruction, Session};
 use commands::answers::{Reply, refusal, silent};
-use forms::{formed, instruction_of, sent};
-use parts::wide;
+use forms::{formed, sent};
 
 // A host answer that leaves everything.
 pub fn decline(a: Answer, s: Session) -> Played
@@ -30,15 +29,13 @@ fn tell(t: Reply, room: &mut [u8]) -> Played
     requires { t.count + 2 ≤ length room.old }
     ensures { Tells t result room.old room.new }
 {
-    let count = t.count;
-    let word = t.word;
-    room[count] = (word / 256) as u8;
-    room[count + 1] = (word % 256) as u8;
-    let session = t.session;
+    let [high, low] = t.word.to_be_bytes();
+    room[t.count] = high;
+    room[t.count + 1] = low;
     Played {
         answer: Answer::Played,
-        count: count + 2,
-        session,
+        count: t.count + 2,
+        session: t.session,
     }
 }
 
@@ -57,9 +54,9 @@ fn carry_out(
         (byte command.now 2) (byte command.now 3) (byte command.now 4) (drop 5 command.now)))
         result image.new room.old room.new }
 {
-    let p = wide(command[2]);
-    let q = wide(command[3]);
-    let n = wide(command[4]);
+    let p = usize::from(command[2]);
+    let q = usize::from(command[3]);
+    let n = usize::from(command[4]);
     let t = act(image, s, i, p, q, n, &command[5..], &mut room[..256]);
     tell(t, room)
 }
@@ -79,9 +76,8 @@ fn perform_as(
     if command[0] != 0xa0 {
         return tell(silent(s, 0x6e00), room);
     }
-    let word = formed(i, command[2], command[3], command[4]);
-    if word != 0 {
-        return tell(refusal(s, word), room);
+    if let Err(refused) = formed(i, command[2], command[3], command[4]) {
+        return tell(refusal(s, u16::from(refused)), room);
     }
     if command.len() - 5 != sent(i, command[4]) {
         return decline(Answer::WrongLength, s);
@@ -95,5 +91,5 @@ pub fn perform(image: &mut [u8], s: Session, command: &[u8], room: &mut [u8]) ->
     requires in_bounds { (258 ≤ length room.old) × (5 ≤ length command.now) }
     ensures { Ends (perform image.old s command.now) result image.new room.old room.new }
 {
-    perform_as(image, s, instruction_of(command[1]), command, room)
+    perform_as(image, s, Instruction::from(command[1]), command, room)
 }

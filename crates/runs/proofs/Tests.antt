@@ -1,25 +1,26 @@
--- Both tests as one, by the answer of an examination.
+-- Both tests as one, by what an examination found.
 use Prim.Native.Nat.{ℕ}
-use mathlib.Core.Path.{◌≡◌, sym, ◌∙◌}
+use mathlib.Core.Path.{◌≡◌, refl, sym, ◌∙◌}
 use mathlib.Core.List.{List}
-use mathlib.Core.Bool.{true, false, ◌&&◌, false≢true}
+use mathlib.Core.Bool.{Bool, true, false, ◌&&◌}
+use Rattle.std.specs.Result.{is_ok}
 use Rattle.card.specs.Layout.{head}
 use Rattle.card.specs.Sessions.{fits}
 use Rattle.card.specs.Shelf.{is_image}
-use Rattle.card.specs.declared.Answer.{Answer}
-use Rattle.card.specs.declared.Answer.TheVariants.{Played}
 use Rattle.card.specs.declared.Session.{Session}
-use Rattle.card.proofs.Tests.{both, joint, same_test}
+use Rattle.card.proofs.Tests.{both}
 use Rattle.acts.specs.Ready.{Ready}
-use Rattle.shelf_check.specs.Examined.{examined}
-use Rattle.shelf_check.proofs.Examining.{by_tests}
+use Rattle.shelf_check.specs.Examined.{answer_of, examined}
 
-module _ {l : List ℕ} {s : Session} where
-  pub passed : Ready l s → (true ≡ (is_image l && fits (head l) s)) × (true ≡ true → Ready l s)
-  passed r = (sym (joint r.image r.session), λ k. r)
+agreed : (b f : Bool) → is_ok (answer_of b f) ≡ (b && f)
+agreed true true = refl
+agreed true false = refl
+agreed false f = refl
 
-  pub stopped : {a : Answer} → a ≡ examined l s → (a ≡ Played → ⊥) → (false ≡ (is_image l && fits (head l) s)) × (false ≡ true → Ready l s)
-  stopped e other = (same_test false (is_image l && fits (head l) s) (λ k. absurd (false≢true k)) against, λ k. absurd (false≢true k))
-    where
-      against : (is_image l && fits (head l) s) ≡ true → false ≡ true
-      against t = let h = both (is_image l) (fits (head l) s) t in absurd (other (e ∙ sym (by_tests l s h.0 h.1)))
+module _ (l : List ℕ) (s : Session) {t : Bool} (e : t ≡ is_ok (examined l s)) where
+  pub value : t ≡ (is_image l && fits (head l) s)
+  unfolding examined
+  value = e ∙ agreed (is_image l) (fits (head l) s)
+
+  pub ready : t ≡ true → Ready l s
+  ready h = let p = both (is_image l) (fits (head l) s) (sym value ∙ h) in record { image = p.0; session = p.1 }

@@ -4,14 +4,13 @@
 
 ghost use Rattle.std.specs.Prelude.{◌≡◌, true, ◌&&◌, length, ◌<◌};
 ghost use Rattle.acts.specs.Ready.{Ready};
-ghost use Rattle.card.specs.Answers.{number};
 ghost use Rattle.card.specs.Layout.{head};
 ghost use Rattle.card.specs.Play.{play};
 ghost use Rattle.card.specs.Sessions.{reset, fits};
 ghost use Rattle.card.specs.Shelf.{is_image};
 ghost use Rattle.player.specs.Ends.{Ends};
 
-use card::{Answer, Current, Pointer, Session};
+use card::Session;
 use player::Played;
 use shelf_check::examine;
 
@@ -21,25 +20,12 @@ pub fn reset() -> Session
 {
     Session {
         directory: 0,
-        current: Current::Nothing,
-        pointer: Pointer::Undefined,
+        current: None,
+        pointer: None,
         chv1: false,
         chv2: false,
         waiting: [0; 22],
         count: 0,
-    }
-}
-
-// The paper's number of the host's answer.
-pub fn number(a: Answer) -> u8
-    ensures { (result ≡ number a) × (result < 5) }
-{
-    match a {
-        Answer::Played => 0,
-        Answer::NotAnImage => 1,
-        Answer::DoesNotFit => 2,
-        Answer::RoomTooSmall => 3,
-        Answer::WrongLength => 4,
     }
 }
 
@@ -48,15 +34,12 @@ pub fn tested(image: &[u8], session: Session) -> bool
     ensures value { result ≡ (is_image image.now && fits (head image.now) session) }
     ensures ready { result ≡ true → Ready image.now session }
 {
-    let answer = examine(image, session);
-    match answer {
-        Answer::Played => true,
-        _ => false,
-    }
+    examine(image, session).is_ok()
 }
 
 // Plays a command as `play` does; where image and session are known to be tested, it does not test them again, and they are so again
-// afterwards. Only this project's programs call it.
+// afterwards. Only this project's programs call it. `known` is a flag and no type: a type for what was tested would have to hold the image,
+// which is lent anew for each command.
 pub fn play_on(
     known: bool,
     image: &mut [u8],

@@ -8,7 +8,7 @@ ghost use Rattle.shapes.specs.Means.{pairs, counts, meaning};
 use card::Instruction;
 
 // Which P1 and P2 are right.
-#[derive(Clone, Copy)]
+#[derive(Clone, Copy, Debug, PartialEq, Eq)]
 pub enum Pair {
     Both(u8, u8),
     Any,
@@ -17,72 +17,64 @@ pub enum Pair {
     CodeNumber(u8, u8),
 }
 
-// Which P3 is right, and the word for any other.
-#[derive(Clone, Copy)]
+// Which P3 is right. A refusal of any other tells a length: the only one that is right, the second of `UpTo`, and else 0.
+#[derive(Clone, Copy, Debug, PartialEq, Eq)]
 pub enum Count {
-    Exactly(u8, u16),
-    UpTo(u8, u16),
-    Some,
+    Exactly(u8),
+    UpTo(u8, u8),
+    NotZero,
     Free,
 }
 
-#[derive(Clone, Copy)]
+#[derive(Clone, Copy, Debug, PartialEq, Eq)]
 pub struct Shape {
-    pub known: bool,
     pub pair: Pair,
     pub count: Count,
     pub sends: bool,
 }
 
-// A command that sends P3 data bytes, and one that sends none.
-fn sending(pair: Pair, count: Count) -> Shape
+// A command that sends P3 data bytes, and one that sends none: the table's two words, as in the definition.
+fn sending(pair: Pair, count: Count) -> Option<Shape>
     ensures { meaning result ≡ sending (pairs pair) (counts count) }
 {
-    Shape {
-        known: true,
+    Some(Shape {
         pair,
         count,
         sends: true,
-    }
+    })
 }
 
-fn asking(pair: Pair, count: Count) -> Shape
+fn asking(pair: Pair, count: Count) -> Option<Shape>
     ensures { meaning result ≡ asking (pairs pair) (counts count) }
 {
-    Shape {
-        known: true,
+    Some(Shape {
         pair,
         count,
         sends: false,
-    }
+    })
 }
 
-pub fn shape_of(i: Instruction) -> Shape
+// The shape of a command that the card knows.
+pub fn shape_of(i: Instruction) -> Option<Shape>
     ensures { form_of i ≡ meaning result }
 {
     match i {
-        Instruction::Select => sending(Pair::Both(0, 0), Count::Exactly(2, 0x6702)),
-        Instruction::Status => asking(Pair::Both(0, 0), Count::UpTo(22, 0x6716)),
+        Instruction::Select => sending(Pair::Both(0, 0), Count::Exactly(2)),
+        Instruction::Status => asking(Pair::Both(0, 0), Count::UpTo(22, 22)),
         Instruction::ReadBinary => asking(Pair::Any, Count::Free),
-        Instruction::UpdateBinary => sending(Pair::Any, Count::Some),
+        Instruction::UpdateBinary => sending(Pair::Any, Count::NotZero),
         Instruction::ReadRecord => asking(Pair::Mode, Count::Free),
-        Instruction::UpdateRecord => sending(Pair::Mode, Count::Some),
-        Instruction::Seek => sending(Pair::SeekMode, Count::UpTo(16, 0x6700)),
-        Instruction::Increase => sending(Pair::Both(0, 0), Count::Exactly(3, 0x6703)),
-        Instruction::Verify => sending(Pair::CodeNumber(1, 2), Count::Exactly(8, 0x6708)),
-        Instruction::Change => sending(Pair::CodeNumber(1, 2), Count::Exactly(16, 0x6710)),
-        Instruction::Disable => sending(Pair::Both(0, 1), Count::Exactly(8, 0x6708)),
-        Instruction::Enable => sending(Pair::Both(0, 1), Count::Exactly(8, 0x6708)),
-        Instruction::Unblock => sending(Pair::CodeNumber(0, 2), Count::Exactly(16, 0x6710)),
-        Instruction::Invalidate => asking(Pair::Both(0, 0), Count::Exactly(0, 0x6700)),
-        Instruction::Rehabilitate => asking(Pair::Both(0, 0), Count::Exactly(0, 0x6700)),
-        Instruction::Sleep => asking(Pair::Both(0, 0), Count::Exactly(0, 0x6700)),
+        Instruction::UpdateRecord => sending(Pair::Mode, Count::NotZero),
+        Instruction::Seek => sending(Pair::SeekMode, Count::UpTo(16, 0)),
+        Instruction::Increase => sending(Pair::Both(0, 0), Count::Exactly(3)),
+        Instruction::Verify => sending(Pair::CodeNumber(1, 2), Count::Exactly(8)),
+        Instruction::Change => sending(Pair::CodeNumber(1, 2), Count::Exactly(16)),
+        Instruction::Disable | Instruction::Enable => sending(Pair::Both(0, 1), Count::Exactly(8)),
+        Instruction::Unblock => sending(Pair::CodeNumber(0, 2), Count::Exactly(16)),
+        Instruction::Invalidate | Instruction::Rehabilitate | Instruction::Sleep => {
+            asking(Pair::Both(0, 0), Count::Exactly(0))
+        }
         Instruction::GetResponse => asking(Pair::Both(0, 0), Count::Free),
-        Instruction::Unknown => Shape {
-            known: false,
-            pair: Pair::Any,
-            count: Count::Free,
-            sends: false,
-        },
+        Instruction::Unknown => None,
     }
 }

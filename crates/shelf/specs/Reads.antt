@@ -23,11 +23,6 @@ pub record Summed (l : List ℕ) (f n : ℕ) : Type 0 where
   pub is : n ≡ sizes l f
   pub small : n < 4294967296
 
--- how many of n entries pass a test
-pub record Counted (n k r : ℕ) : Type 0 where
-  pub is : r ≡ k
-  pub few : r ≤ n
-
 -- a code's counters
 pub record Counters (k : Code) : Type 0 where
   pub attempts : k.attempts ≤ 3

@@ -2,4 +2,5 @@
 // that these are an image, or for an index of a whole head.
 #![tactic(auto)]
 
+pub mod head;
 pub mod read;

@@ -1,15 +1,13 @@
 -- Laws of the table of what a file's identifier starts with: how it is made, and a file's rules by it.
-use Prim.Native.Nat.{ℕ, ◌+◌, ◌/◌, ◌%◌, ◌<◌, ◌≤◌}
-use mathlib.Core.Path.{◌≡◌, refl, sym, ap, ◌∙◌, subst}
+use Prim.Native.Nat.{ℕ, ◌/◌, ◌%◌, ◌<◌}
+use mathlib.Core.Path.{◌≡◌, refl, sym, ap, ◌∙◌}
 use mathlib.Core.List.{List, [], ◌∷◌}
 use mathlib.Core.Bool.{Bool, true, false, ◌&&◌, and-true, and_assoc, and_comm}
 use mathlib.Core.Logic.{◌⊎◌, inl, inr}
 use native.Mathlib.Omega.{arith}
-use native.Mathlib.Nat.{eq-or-lt_of_le}
 use borrow.Author.Tests.{eqb-true, eq-eqb, ltb-true, ltb-false, lt-ltb}
 use lib.Dec.{eqb, ltb}
-use lib.ListN.{get_or, set, replicate, length-replicate, get_or-replicate, length-set}
-use lib.Seq.{get_or-set_same, get_or-set_other}
+use lib.ListN.{get_or, replicate, length-replicate, get_or-replicate}
 use Rattle.card.specs.Layout.{index, directory}
 use Rattle.card.specs.Shelf.{all, within, file_rules}
 use Rattle.card.specs.declared.Entry.{Entry}
@@ -26,24 +24,6 @@ module _ (l : List ℕ) where
         at = λ d lt. absurd (omega arith);
         rest = λ d a lt. get_or-replicate 32 d 256 0 lt;
       }
-
-  -- directory n besides
-  pub homes_more : {n : ℕ} {homes : List ℕ} (w : ℕ) → n < 32 → Homes l n homes → w ≡ within ((directory l n).identifier / 256)
-      → Homes l (n + 1) (set homes n w)
-  homes_more {n} {homes} w lt t is =
-      record {
-        size = length-set homes n w ∙ t.size;
-        few = omega arith;
-        at = λ d below. go d (eq-or-lt_of_le {n = d} {m = n} (omega arith));
-        rest = λ d a b. get_or-set_other homes n d w 0 (λ e. omega arith) ∙ t.rest d (omega arith) b;
-      }
-    where
-      go : (d : ℕ) → (d ≡ n) ⊎ (d < n) → get_or (set homes n w) d 0 ≡ within ((directory l d).identifier / 256)
-      go d (inl e) = rw e (get_or-set_same homes n w 0 (omega (arith, t.size)) ∙ is)
-      go d (inr b) = get_or-set_other homes n d w 0 (λ e. omega arith) ∙ t.at d b
-
-  pub homes_end : {n : ℕ} {homes : List ℕ} (d : ℕ) → d ≤ n → n ≤ d → Homes l d homes → Homes l n homes
-  homes_end {n} {homes} d a b t = let e : d ≡ n = omega arith in subst (λ k. Homes l k homes) e t
 
 and_left_comm : (a b c : Bool) → (a && (b && c)) ≡ (b && (a && c))
 and_left_comm true b c = refl

@@ -85,10 +85,6 @@ module _ (rules : ℕ → Bool) (key : ℕ → ℕ) where
   unfolding every
   pass_none e = let h = holds_none key in rw e (record { is = refl; size = h.size; held = λ t. h })
 
-  -- the marks are as many as before
-  pub pass_size : {s : Bool} {n : ℕ} {m m₀ : List ℕ} → m₀ ≡ replicate 256 0 → Pass rules key n s m → length m ≡ length m₀
-  pass_size e p = rw e (p.size ∙ sym (length-replicate {A = ℕ} 256 0))
-
   pub pass_end : {s : Bool} {m : List ℕ} (n i : ℕ) → i ≤ n → n ≤ i → Pass rules key i s m → s ≡ every n rules
   pass_end n i a b p = let e : i ≡ n = omega arith in rw (← e) p.is
 

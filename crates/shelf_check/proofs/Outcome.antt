@@ -3,6 +3,7 @@
 use mathlib.Core.Path.{◌≡◌, sym, ◌∙◌}
 use mathlib.Core.List.{List}
 use mathlib.Core.Bool.{Bool}
+use Rattle.std.specs.Prelude.{Result}
 use Prim.Native.Nat.{ℕ}
 use Rattle.card.specs.Shelf.{is_image}
 use Rattle.card.specs.declared.Answer.{Answer}
@@ -20,5 +21,5 @@ one_index p q = one-outcome p.is q.is
 pub one_verdict : (l : List ℕ) (r r' : Bool) → r ≡ is_image l → r' ≡ is_image l → r ≡ r'
 one_verdict l r r' = one-outcome
 
-pub one_examination : (l : List ℕ) (s : Session) (r r' : Answer) → r ≡ examined l s → r' ≡ examined l s → r ≡ r'
+pub one_examination : (l : List ℕ) (s : Session) (r r' : Result (Unit {0}) Answer) → r ≡ examined l s → r' ≡ examined l s → r ≡ r'
 one_examination l s r r' = one-outcome

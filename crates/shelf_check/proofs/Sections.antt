@@ -4,9 +4,10 @@ use mathlib.Core.Path.{◌≡◌, refl, sym, ap, ◌∙◌}
 use mathlib.Core.List.{List}
 use mathlib.Core.Logic.{◌⊎◌, inl, inr}
 use mathlib.Core.Bool.{Bool, true, false, ◌&&◌, not, and-true, and-false, and_assoc}
+use Rattle.std.specs.Prelude.{Option, Some, None}
 use native.Mathlib.Numerals.{add-one}
 use native.Mathlib.Omega.{arith}
-use borrow.Author.Tests.{not-true, not-false, eqb-true, eq-eqb, ltb-true, lt-ltb, leb-true, le-leb, lt-leb}
+use borrow.Author.Tests.{not-true, not-false, eqb-true, eq-eqb, lt-ltb, leb-true, le-leb, lt-leb}
 use lib.ListN.{length}
 use lib.Dec.{eqb, leb, ltb}
 use Rattle.card.specs.Bytes.{word, every}
@@ -22,20 +23,14 @@ use Rattle.card.proofs.Places.{code_place, directory_place, file_place, sections
 use Rattle.card.proofs.Tests.{both, joint, same_test, decided, apart}
 use Rattle.shelf.proofs.Heading.{file_read as entry_read}
 use Rattle.shelf.specs.Reads.{Indexed}
-use Rattle.shelf_check.specs.Homes.{Homes}
 use Rattle.shelf_check.specs.Whole.{Whole}
 use Rattle.shelf_check.specs.Tallies.{tally}
-use Rattle.shelf_check.specs.declared.check.Tally.{Tally}
-use Rattle.shelf_check.specs.declared.check.Tally.TheVariants.{Unsound, Sum}
 use Rattle.shelf_check.proofs.Directories.{directory_keeps}
 use Rattle.shelf_check.proofs.Files.{file_keeps}
 
 -- a negated test of a result, as a fact of what the result says
 pub fails : {r t : Bool} → r ≡ t → not r ≡ true → t ≡ false
 fails {r} e h = sym e ∙ not-true r h
-
-pub holds : {r t : Bool} → r ≡ t → not r ≡ false → t ≡ true
-holds {r} e h = sym e ∙ not-false r h
 
 pub sizes_none : (l : List ℕ) → 0 ≡ sizes l 0
 unfolding sizes
@@ -60,30 +55,29 @@ same_count a b = same_test _ _ to from
         eq-eqb a b (omega arith)
 
 module _ (l : List ℕ) (n : ℕ) where
-  pub tally_fails : every n (file_keeps l) ≡ false → Unsound ≡ tally l n
+  pub tally_fails : every n (file_keeps l) ≡ false → None ≡ tally l n
   unfolding tally
   tally_fails h = simp (tally, h)
 
-  pub tally_sum : (f sum : ℕ) → f ≤ n → n ≤ f → every n (file_keeps l) ≡ true → sum ≡ sizes l f → Sum sum ≡ tally l n
+  pub tally_sum : (f sum : ℕ) → f ≤ n → n ≤ f → every n (file_keeps l) ≡ true → sum ≡ sizes l f → Some sum ≡ tally l n
   unfolding tally
   tally_sum f sum a b h e = let k : f ≡ n = omega arith in let x : sum ≡ sizes l n = rw (← k) e in simp (tally, h, x)
 
-  unsound : (b : Bool) (s : ℕ) → elim b [ true ↦ Sum s | false ↦ Unsound ] ≡ Unsound → b ≡ false
-  unsound true s h = let z : ◌≡◌ {A = ℕ} 0 1 = cc in absurd (omega arith)
+  unsound : (b : Bool) (s : ℕ) → ◌≡◌ {A = Option ℕ} None (elim b [ true ↦ Some s | false ↦ None ]) → b ≡ false
+  unsound true s h = cc
   unsound false s h = refl
 
-  sound : (b : Bool) (s x : ℕ) → elim b [ true ↦ Sum s | false ↦ Unsound ] ≡ Sum x → (b ≡ true) × (x ≡ s)
+  sound : (b : Bool) (s x : ℕ) → ◌≡◌ {A = Option ℕ} (Some x) (elim b [ true ↦ Some s | false ↦ None ]) → (b ≡ true) × (x ≡ s)
   sound true s x h = (refl, cc)
-  sound false s x h = let z : ◌≡◌ {A = ℕ} 0 1 = cc in absurd (omega arith)
+  sound false s x h = cc
 
-  module _ (t : Tally) (is : t ≡ tally l n) where
-    pub tally_not : t ≡ Unsound → every n (file_keeps l) ≡ false
-    unfolding tally
-    tally_not e = unsound (every n (file_keeps l)) (sizes l n) (sym is ∙ e)
+  pub tally_not : None ≡ tally l n → every n (file_keeps l) ≡ false
+  unfolding tally
+  tally_not = unsound (every n (file_keeps l)) (sizes l n)
 
-    pub tally_is : (x : ℕ) → t ≡ Sum x → (every n (file_keeps l) ≡ true) × (x ≡ sizes l n)
-    unfolding tally
-    tally_is x e = sound (every n (file_keeps l)) (sizes l n) x (sym is ∙ e)
+  pub tally_is : (x : ℕ) → Some x ≡ tally l n → (every n (file_keeps l) ≡ true) × (x ≡ sizes l n)
+  unfolding tally
+  tally_is = sound (every n (file_keeps l)) (sizes l n)
 
 -- The counts and the length are tested first: where they fail this is no image, and where they hold the sections are all there.
 module _ (l : List ℕ) (i : Index) (n : Indexed l i) where
@@ -92,21 +86,6 @@ module _ (l : List ℕ) (i : Index) (n : Indexed l i) where
 
   abbrev tested : Bool
   tested = eqb i.codes 2 && ltb 0 i.directories && leb i.directories 32 && leb i.files 200 && leb i.store (length l)
-
-  pub is_whole : tested ≡ true → Whole l i
-  is_whole t =
-      let a = both (eqb i.codes 2 && ltb 0 i.directories && leb i.directories 32 && leb i.files 200) _ t in
-      let b = both (eqb i.codes 2 && ltb 0 i.directories && leb i.directories 32) _ a.0 in
-      let c = both (eqb i.codes 2 && ltb 0 i.directories) _ b.0 in
-      let d = both (eqb i.codes 2) _ c.0 in
-      record {
-        indexed = n;
-        codes = eqb-true _ _ d.0;
-        some = ltb-true _ _ d.1;
-        directories = leb-true _ _ c.1;
-        files = leb-true _ _ b.1;
-        all = leb-true _ _ a.1;
-      }
 
   passes : Image l → tested ≡ true
   passes m =
@@ -154,9 +133,6 @@ module _ (l : List ℕ) (i : Index) (w : Whole l i) where
 
   pub file_inside : (f : ℕ) → f < i.files → i.table + 14 * f + 14 ≤ length l
   file_inside = rw index_is (λ f lt. let p = file_place l f lt in let h = store_here in omega arith)
-
-  pub homes_all : {homes : List ℕ} → Homes l i.directories homes → Homes l (index l).directories homes
-  homes_all t = rw (← index_is) t
 
   pub few : (index l).directories ≤ 32
   few = rw (← index_is) w.directories

@@ -5,57 +5,52 @@ mod check;
 mod fit;
 mod marks;
 mod rules;
+mod whole;
 
 ghost use Rattle.std.specs.Prelude.{◌≡◌};
 ghost use Rattle.card.specs.Shelf.{is_image};
 ghost use Rattle.shelf_check.specs.Examined.{examined};
-ghost use Rattle.shelf_check.specs.Whole.{Whole};
 
-use card::{Answer, Index, Session};
-use shelf::read;
+use card::{Answer, Session};
+use whole::Sections;
 
-// Section by section, once the counts and the length are an image's. The marks of both passes are cleared at once.
-fn sound(image: &[u8], i: Index) -> bool
-    requires { Whole image.now i }
-    ensures { result ≡ is_image image.now }
+// Section by section, once the counts and the length are an image's.
+fn sound(s: &Sections) -> bool
+    ensures { result ≡ is_image s.now.image.now }
 {
-    if !check::codes_sound(image, i) {
+    if !check::codes_sound(s) {
         return false;
     }
-    let homes = check::homes(image, i);
-    let mut marks: [u32; 512] = [0; 512];
-    if !check::directories_sound(image, i, &mut marks[256..]) {
+    if !check::directories_sound(s) {
         return false;
     }
-    check::files_sound(image, i, &homes, &mut marks[..256])
+    check::files_sound(s, &check::homes(s))
 }
 
 // Whether some bytes are an image, whatever bytes they are.
 pub fn is_image(image: &[u8]) -> bool
     ensures { result ≡ is_image image.now }
 {
-    let i = read::index(image);
-    if !check::whole(image, i) {
-        return false;
+    match Sections::of(image) {
+        Some(s) => sound(&s),
+        None => false,
     }
-    sound(image, i)
 }
 
-// The host's answer before a command is looked at: whether the bytes are an image, and whether the session fits it. `Played` says that
-// nothing is in the way so far. The session is tested before the loops over the entries: they are slower where it is kept through them.
-pub fn examine(image: &[u8], session: Session) -> Answer
+// Whether anything is in the way before a command is looked at, and then the host's answer: the bytes are no image, or the session does not
+// fit it. The session is tested before the loops over the entries: they are slower where it is kept through them.
+pub fn examine(image: &[u8], session: Session) -> Result<(), Answer>
     ensures { result ≡ examined image.now session }
 {
-    let i = read::index(image);
-    if !check::whole(image, i) {
-        return Answer::NotAnImage;
-    }
-    let fit = fit::fits(image, i, session);
-    if !sound(image, i) {
-        return Answer::NotAnImage;
+    let Some(s) = Sections::of(image) else {
+        return Err(Answer::NotAnImage);
+    };
+    let fit = fit::fits(&s, session);
+    if !sound(&s) {
+        return Err(Answer::NotAnImage);
     }
     if !fit {
-        return Answer::DoesNotFit;
+        return Err(Answer::DoesNotFit);
     }
-    Answer::Played
+    Ok(())
 }

@@ -1,10 +1,10 @@
 // Marks for keys below 8192, each a bit of 256 words.
-ghost use Rattle.std.specs.Prelude.{◌≡◌, ◌<◌, length};
+ghost use Rattle.std.specs.Prelude.{◌≡◌, ◌<◌};
 ghost use Rattle.shelf_check.specs.Marks.{marked, Adds};
 
 // Whether a key was marked; from now on it is.
-pub fn meet(marks: &mut [u32], key: usize) -> bool
-    requires { (key < 8192) × (length marks.old ≡ 256) }
+pub fn meet(marks: &mut [u32; 256], key: usize) -> bool
+    requires { key < 8192 }
     ensures value { result ≡ marked marks.old key }
     ensures adds { Adds marks.old key marks.new }
 {

@@ -1,14 +1,13 @@
 // The rules of one entry.
-ghost use Rattle.std.specs.Prelude.{◌≡◌, ◌&&◌, List, ℕ, ◌<◌, ◌/◌, ◌%◌, eqb, ltb};
+ghost use Rattle.std.specs.Prelude.{◌≡◌, ◌&&◌, List, ℕ, ◌<◌, ◌+◌, ◌*◌, ◌/◌, ◌%◌, eqb, ltb};
 ghost use Rattle.card.specs.Layout.{index, directory, records};
 ghost use Rattle.card.specs.Shelf.{all, code_rules, below, within, records_rule};
 ghost use Rattle.shelf_check.specs.Apart.{own_directory, own_file, zero_rules, structure_rules, directory_key, file_key};
 ghost use Rattle.shelf_check.specs.Homes.{Homes};
-ghost use Rattle.shelf_check.specs.Whole.{Whole};
 
-use card::{Code, Directory, Entry, Index};
+use crate::whole::Sections;
+use card::{Code, Directory, Entry};
 use entries::records;
-use parts::wide;
 
 // A directory that starts 7F stands in one that starts 3F, and 5F in 7F.
 fn below(parent: u16, child: u16) -> bool
@@ -17,7 +16,7 @@ fn below(parent: u16, child: u16) -> bool
     ((parent == 0x3f) & (child == 0x7f)) | ((parent == 0x7f) & (child == 0x5f))
 }
 
-// The first byte of a file that stands in a directory.
+// The first byte of a file that stands in a directory. No `match`: its last arm would not tell the proof which numbers came before it.
 pub fn within(high: u16) -> u16
     ensures { result ≡ within high }
 {
@@ -35,34 +34,43 @@ pub fn code_rules(c: usize, k: Code) -> bool
     requires { c < 2 }
     ensures { result ≡ all (code_rules c k) }
 {
-    wide(k.flags) % 64 / (2 - c) + wide(k.attempts) / 4 + wide(k.unblocks) / 11 + wide(k.spare) == 0
+    usize::from(k.flags) % 64 / (2 - c)
+        + usize::from(k.attempts) / 4
+        + usize::from(k.unblocks) / 11
+        + usize::from(k.spare)
+        == 0
 }
 
 // The first byte of a directory's identifier.
-pub fn first_byte(l: &[u8], i: Index, d: usize) -> u16
-    requires whole { Whole l.now i }
-    requires d_lt_directories { d < i.directories }
-    ensures { result ≡ (directory l.now d).identifier / 256 }
+pub fn first_byte(s: &Sections, d: usize) -> u16
+    requires { d < s.now.index.directories }
+    ensures { result ≡ (directory s.now.image.now d).identifier / 256 }
 {
-    entries::word(l, i.tree + 8 * d) / 256
+    s.directory(d).identifier / 256
 }
 
 // Directory d, whose entry is e, but for twins.
-pub fn directory_rules(l: &[u8], i: Index, d: usize, e: Directory) -> bool
-    requires whole { Whole l.now i }
-    requires d_lt_directories { d < i.directories }
-    ensures { result ≡ own_directory l.now d e }
+pub fn directory_rules(s: &Sections, d: usize, e: Directory) -> bool
+    requires { d < s.now.index.directories }
+    ensures { result ≡ own_directory s.now.image.now d e }
 {
     let common = (e.characteristics < 128) & (e.spare == 0);
     if d == 0 {
         return common & (e.identifier == 0x3f00) & (e.parent == 0);
     }
-    let parent = e.parent as usize;
+    let parent = usize::from(e.parent);
     if d <= parent {
         return false;
     }
-    let up = first_byte(l, i, parent);
+    let up = first_byte(s, parent);
     common & below(up, e.identifier / 256)
+}
+
+// The low byte of an identifier, and above it the number of the directory in which it is told from the others.
+fn key(identifier: u16, home: u8) -> usize
+    ensures { result ≡ identifier % 256 + 256 * home }
+{
+    usize::from(identifier % 256) + 256 * usize::from(home)
 }
 
 // What tells directory d from the others.
@@ -72,7 +80,7 @@ pub fn directory_key(d: usize, e: Directory) -> usize
     if d == 0 {
         7936
     } else {
-        ((e.identifier % 256) as usize) + 256 * (e.parent as usize)
+        key(e.identifier, e.parent)
     }
 }
 
@@ -81,8 +89,12 @@ pub fn directory_key(d: usize, e: Directory) -> usize
 fn zeros(e: Entry) -> usize
     ensures { eqb result 0 ≡ zero_rules e }
 {
-    let status = wide(e.status);
-    wide(e.home) / 32 + wide(e.spare) + status / 2 % 2 + status / 8 + wide(e.access2) % 16
+    let status = usize::from(e.status);
+    usize::from(e.home) / 32
+        + usize::from(e.spare)
+        + status / 2 % 2
+        + status / 8
+        + usize::from(e.access2) % 16
 }
 
 // A file without a record length.
@@ -90,7 +102,7 @@ fn transparent_rules(e: Entry) -> bool
     requires { e.width ≡ 0 }
     ensures { result ≡ structure_rules e }
 {
-    (0 < e.size) & (wide(e.structure) + wide(e.increase) + wide(e.top) == 0)
+    (0 < e.size) & (usize::from(e.structure) + usize::from(e.increase) + usize::from(e.top) == 0)
 }
 
 // 1 to 254 whole records, and the top is one of them.
@@ -98,7 +110,7 @@ fn size_rule(e: Entry) -> bool
     ensures { result ≡ (records_rule e && ltb e.top (records e)) }
 {
     let n = records(e);
-    (n * wide(e.width) == (e.size as usize)) & (n < 255) & (wide(e.top) < n)
+    (n * usize::from(e.width) == usize::from(e.size)) & (n < 255) & (usize::from(e.top) < n)
 }
 
 // A file with one.
@@ -106,10 +118,10 @@ fn record_rules(e: Entry) -> bool
     requires { 0 < e.width }
     ensures { result ≡ structure_rules e }
 {
-    let structure = wide(e.structure);
-    let increase = wide(e.increase);
+    let structure = usize::from(e.structure);
+    let increase = usize::from(e.increase);
     size_rule(e)
-        & ((structure == 3) | ((structure == 1) & (increase + wide(e.top) == 0)))
+        & ((structure == 3) | ((structure == 1) & (increase + usize::from(e.top) == 0)))
         & ((increase == 0) | ((increase == 0x40) & (e.width == 3)))
 }
 
@@ -128,7 +140,7 @@ fn structure_rules(e: Entry) -> bool
 pub fn file_rules(homes: &[u16; 32], e: Entry) -> bool
     ensures { (l : List ℕ) → Homes l (index l).directories homes.now → result ≡ own_file l e }
 {
-    let home = e.home as usize;
+    let home = usize::from(e.home);
     let high = e.identifier / 256;
     let own = structure_rules(e);
     (high == homes[home % 32]) & (zeros(e) == 0) & own
@@ -138,5 +150,5 @@ pub fn file_rules(homes: &[u16; 32], e: Entry) -> bool
 pub fn file_key(e: Entry) -> usize
     ensures { result ≡ file_key e }
 {
-    ((e.identifier % 256) as usize) + 256 * (e.home as usize)
+    key(e.identifier, e.home)
 }

@@ -1,65 +1,61 @@
 // What SELECT finds: a directory that an identifier leads to, and a file that it names.
 #![tactic(auto)]
 
-ghost use Rattle.std.specs.Prelude.{◌≡◌, ◌+◌, ◌*◌, ◌<◌, ◌≤◌, length};
+ghost use Rattle.std.specs.Prelude.{◌≡◌, ◌<◌, MatchOption};
 ghost use Rattle.card.specs.Layout.{file};
 ghost use Rattle.card.specs.Select.{leads, named, find_directory, find_file};
-ghost use Rattle.shelf.specs.Reads.{Indexed, Head};
 
-use card::{Directory, Index};
-use shelf::read;
+use card::Directory;
+use shelf::head::ImageHead;
 
 // Whether an identifier selects directory d.
 fn leads(here: usize, up: u8, id: u16, d: usize, e: Directory) -> bool
     ensures { result ≡ leads here up id d e }
 {
-    let parent = e.parent as usize;
-    let above = up as usize;
+    let parent = usize::from(e.parent);
+    let above = usize::from(up);
     ((d == 0) | (d == here) | (d == above) | (parent == here) | (parent == above))
         & (e.identifier == id)
 }
 
 // Whether an identifier selects file f.
-fn named(head: &[u8], i: Index, here: usize, id: u16, f: usize) -> bool
-    requires indexed { Indexed head.now i }
-    requires f_in_bounds { i.table + 14 * f + 14 ≤ length head.now }
-    ensures { result ≡ named here id (file head.now f) }
+fn named(head: &ImageHead, here: usize, id: u16, f: usize) -> bool
+    requires { f < head.now.shelf.index.files }
+    ensures { result ≡ named here id (file head.now.shelf.bytes.now f) }
 {
-    let home = read::file_home(head, i, f) as usize;
-    (home == here) & (read::file_identifier(head, i, f) == id)
+    let home = usize::from(head.shelf.file_home(f));
+    (home == here) & (head.shelf.file_identifier(f) == id)
 }
 
-// The number of the directory that an identifier selects, or the count of directories. Only this player's crates call it.
-pub fn find_directory(head: &[u8], i: Index, here: usize, id: u16) -> usize
-    requires head { Head head.now i }
-    requires here_lt_directories { here < i.directories }
-    ensures { result ≡ find_directory head.now here id }
+// The number of the directory that an identifier selects. Only this player's crates call it.
+pub fn find_directory(head: &ImageHead, here: usize, id: u16) -> Option<usize>
+    requires { here < head.now.shelf.index.directories }
+    ensures { MatchOption result
+        (find_directory head.now.shelf.bytes.now here id ≡ head.now.shelf.index.directories)
+        (λ d. (d < head.now.shelf.index.directories)
+        × (d ≡ find_directory head.now.shelf.bytes.now here id)) }
 {
-    let n = i.directories;
-    let e = read::directory(head, i, here);
-    let up = e.parent;
-    let mut d = 0;
-    while d < n {
-        if leads(here, up, id, d, read::directory(head, i, d)) {
-            return d;
+    let up = head.directory(here).parent;
+    for d in 0..head.shelf.index.directories {
+        if leads(here, up, id, d, head.directory(d)) {
+            return Some(d);
         }
-        d += 1;
     }
-    n
+    None
 }
 
-// The number of the file that an identifier selects, or the count of files. Only this player's crates call it.
-pub fn find_file(head: &[u8], i: Index, here: usize, id: u16) -> usize
-    requires { Head head.now i }
-    ensures { result ≡ find_file head.now here id }
+// The number of the file that an identifier selects. Only this player's crates call it. A loop beside that over the directories: one
+// function for both would take what it reads as a closure, and a contract on what that tells of each number is longer than the loop.
+pub fn find_file(head: &ImageHead, here: usize, id: u16) -> Option<usize>
+    ensures { MatchOption result
+        (find_file head.now.shelf.bytes.now here id ≡ head.now.shelf.index.files)
+        (λ f. (f < head.now.shelf.index.files)
+        × (f ≡ find_file head.now.shelf.bytes.now here id)) }
 {
-    let n = i.files;
-    let mut f = 0;
-    while f < n {
-        if named(head, i, here, id, f) {
-            return f;
+    for f in 0..head.shelf.index.files {
+        if named(head, here, id, f) {
+            return Some(f);
         }
-        f += 1;
     }
-    n
+    None
 }

@@ -2,11 +2,13 @@
 use Prim.Native.Nat.{ℕ, ◌+◌, ◌≤◌, ◌<◌, ◌/◌, ◌%◌}
 use mathlib.Core.Path.{◌≡◌, ap, ◌∙◌}
 use mathlib.Core.List.{List, [], ◌∷◌, ◌++◌}
-use mathlib.Core.Bool.{Bool}
+use mathlib.Core.Bool.{Bool, true, false}
 use native.Mathlib.Omega.{arith}
+use mir.Val.{bool_byte}
 use lib.ListN.{length, replicate}
 use borrow.Author.Tests.{eq-eqb, ne_eqb}
-use Rattle.card.specs.Bytes.{bit, how_many}
+use Rattle.std.specs.Int.{w16, to_be_bytes}
+use Rattle.card.specs.Bytes.{byte, bit, how_many}
 use Rattle.card.specs.Layout.{index, code_at, code_entry, code, directory, file, disabled}
 use Rattle.card.specs.Select.{b8, code_status, unblock_status, child, children, member, members, directory_type, directory_response}
 use Rattle.card.proofs.Frames.{placed}
@@ -23,9 +25,26 @@ pub type_other : (d : ℕ) → (d ≡ 0 → ⊥) → 2 ≡ directory_type d
 unfolding directory_type
 type_other d e = simp (directory_type, ne_eqb _ _ e)
 
+-- a test as a number
+pub record Tested (t : Bool) (b : ℕ) : Type 0 where
+  pub is : b ≡ bit t
+  pub few : b ≤ 1
+
+pub tested : (t : Bool) (b : ℕ) → b ≡ bool_byte t → Tested t b
+tested true b e = record { is = e; few = omega arith }
+tested false b e = record { is = e; few = omega arith }
+
 -- a test of an entry that was read, as one of the entry of its number
 pub child_at : (h : List ℕ) (d c b : ℕ) (e : Directory) (r : Bool) → e ≡ directory h c → r ≡ child d c e → b ≡ bit r → b ≡ bit (child d c (directory h c))
 child_at h d c b e r is k m = m ∙ ap bit k ∙ ap (λ (x : Directory). bit (child d c x)) is
+
+-- the two bytes of a word, high byte first
+pub record Bytes (w : ℕ) (b : List ℕ) : Type 0 where
+  pub high : byte b 0 ≡ w / 256
+  pub low : byte b 1 ≡ w % 256
+
+pub word_bytes : (w : ℕ) → w < 65536 → (b : List ℕ) → b ≡ to_be_bytes w16 w → Bytes w b
+word_bytes w lt b e = rw e (record { high = omega arith; low = omega arith })
 
 module _ (h : List ℕ) (i : Index) (is : i ≡ index h) where
   pub children_are : (d r : ℕ) → r ≡ how_many i.directories (λ c. child d c (directory h c)) → r ≡ children h d
@@ -38,9 +57,6 @@ module _ (h : List ℕ) (i : Index) (is : i ≡ index h) where
 
 -- What the head of an image says of the entries that were read.
 module _ (h : List ℕ) (i : Index) (sound : Head h i) where
-  pub plain : (d : ℕ) (e : Directory) → e ≡ directory h d → d < i.directories → e.characteristics < 128
-  plain d e k lt = rw k (sound.sound.directory d (rw (← sound.indexed.is) lt)).characteristics
-
   -- the codes' entries are all there, and their counters are small
   pub codes_inside : 42 ≤ length h
   codes_inside = let p = placed h in let w = sound.sound.whole in let n = sound.sound.codes in omega arith

@@ -5,36 +5,25 @@ ghost use Rattle.std.specs.Prelude.{◌≡◌, ◌++◌, ◌+◌, ◌*◌, ◌<�
 ghost use Rattle.card.specs.Bytes.{bit};
 ghost use Rattle.card.specs.Layout.{disabled, file};
 ghost use Rattle.card.specs.Select.{b8, code_status, unblock_status, child, children, member, members, directory_type, directory_response, file_response};
-ghost use Rattle.shelf.specs.Reads.{Indexed, Head, Counters, Counted};
+ghost use Rattle.shelf.specs.Reads.{Counters};
 
-use card::{Code, Directory, Entry, Index};
+use card::{Code, Directory, Entry};
 use entries::{CHV1, CHV2};
-use shelf::read;
-
-// A word's two bytes.
-fn high(w: u16) -> u8
-    ensures { result ≡ w / 256 }
-{
-    (w / 256) as u8
-}
-
-fn low(w: u16) -> u8
-    ensures { result ≡ w % 256 }
-{
-    (w % 256) as u8
-}
+use shelf::head::ImageHead;
 
 // The 15 bytes on a file, and zeros after them: SELECT reads 22 of the 26 bytes, from a place that is told at run time.
 pub fn file_response(e: Entry) -> [u8; 26]
     ensures { result ≡ file_response e ++ replicate 11 0 }
 {
+    let [size_high, size_low] = e.size.to_be_bytes();
+    let [high, low] = e.identifier.to_be_bytes();
     [
         0,
         0,
-        high(e.size),
-        low(e.size),
-        high(e.identifier),
-        low(e.identifier),
+        size_high,
+        size_low,
+        high,
+        low,
         4,
         e.increase,
         e.access1,
@@ -58,17 +47,11 @@ pub fn file_response(e: Entry) -> [u8; 26]
     ]
 }
 
-// 1 for a test that holds, and b8 for one.
-fn bit(t: bool) -> usize
-    ensures { (result ≡ bit t) × (result ≤ 1) }
-{
-    if t { 1 } else { 0 }
-}
-
+// b8 for a test that holds.
 fn b8(t: bool) -> u8
     ensures { (result ≡ b8 t) × (result ≤ 128) }
 {
-    if t { 0x80 } else { 0 }
+    u8::from(t) * 0x80
 }
 
 fn code_status(k: Code) -> u8
@@ -97,43 +80,34 @@ fn child(d: usize, c: usize, e: Directory) -> bool
     ensures { result ≡ child d c e }
 {
     let root = c == 0;
-    !root & (e.parent as usize == d)
+    !root & (usize::from(e.parent) == d)
 }
 
-fn member(head: &[u8], i: Index, d: usize, f: usize) -> bool
-    requires indexed { Indexed head.now i }
-    requires f_in_bounds { i.table + 14 * f + 14 ≤ length head.now }
-    ensures { result ≡ member d (file head.now f) }
+fn member(head: &ImageHead, d: usize, f: usize) -> bool
+    requires { f < head.now.shelf.index.files }
+    ensures { result ≡ member d (file head.now.shelf.bytes.now f) }
 {
-    read::file_home(head, i, f) as usize == d
+    usize::from(head.shelf.file_home(f)) == d
 }
 
 // How many directories have d as their parent.
-fn children(head: &[u8], i: Index, d: usize) -> usize
-    requires { Head head.now i }
-    ensures { Counted i.directories (children head.now d) result }
+fn children(head: &ImageHead, d: usize) -> u8
+    ensures { result ≡ children head.now.shelf.bytes.now d }
 {
-    let n = i.directories;
-    let mut found: usize = 0;
-    let mut c = 0;
-    while c < n {
-        found += bit(child(d, c, read::directory(head, i, c)));
-        c += 1;
+    let mut found = 0;
+    for c in 0..head.shelf.index.directories {
+        found += u8::from(child(d, c, head.directory(c)));
     }
     found
 }
 
-// How many files lie in directory d.
-fn members(head: &[u8], i: Index, d: usize) -> usize
-    requires { Head head.now i }
-    ensures { Counted i.files (members head.now d) result }
+// How many files lie in directory d. A loop beside that over the directories, as one over a closure needs a contract longer than it.
+fn members(head: &ImageHead, d: usize) -> u8
+    ensures { result ≡ members head.now.shelf.bytes.now d }
 {
-    let n = i.files;
-    let mut found: usize = 0;
-    let mut f = 0;
-    while f < n {
-        found += bit(member(head, i, d, f));
-        f += 1;
+    let mut found = 0;
+    for f in 0..head.shelf.index.files {
+        found += u8::from(member(head, d, f));
     }
     found
 }
@@ -145,17 +119,18 @@ fn directory_type(d: usize) -> u8
 }
 
 // The 22 bytes on a directory, after four zeros: SELECT reads 22 of the 26 bytes, from a place that is told at run time. Only this
-// player's crates call it, with the head of an image.
-pub fn directory_response(head: &[u8], i: Index, d: usize) -> [u8; 26]
-    requires head { Head head.now i }
-    requires d_lt_directories { d < i.directories }
-    ensures { result ≡ replicate 4 0 ++ directory_response head.now d }
+// player's crates call it.
+pub fn directory_response(head: &ImageHead, d: usize) -> [u8; 26]
+    requires { d < head.now.shelf.index.directories }
+    ensures { result ≡ replicate 4 0 ++ directory_response head.now.shelf.bytes.now d }
 {
-    let below = children(head, i, d) as u8;
-    let inside = members(head, i, d) as u8;
-    let chv1 = entries::code(head, CHV1);
-    let chv2 = entries::code(head, CHV2);
-    let e = read::directory(head, i, d);
+    let below = children(head, d);
+    let inside = members(head, d);
+    let chv1 = entries::code(head.shelf.bytes, CHV1);
+    let chv2 = entries::code(head.shelf.bytes, CHV2);
+    let e = head.directory(d);
+    let [memory_high, memory_low] = e.memory.to_be_bytes();
+    let [high, low] = e.identifier.to_be_bytes();
     [
         0,
         0,
@@ -163,10 +138,10 @@ pub fn directory_response(head: &[u8], i: Index, d: usize) -> [u8; 26]
         0,
         0,
         0,
-        high(e.memory),
-        low(e.memory),
-        high(e.identifier),
-        low(e.identifier),
+        memory_high,
+        memory_low,
+        high,
+        low,
         directory_type(d),
         0,
         0,

@@ -1,39 +1,38 @@
 // What is read from standard input, and no byte more.
-ghost use Rattle.std.specs.Prelude.{◌+◌, ◌*◌, ◌<◌, ◌≡◌};
+ghost use Rattle.std.specs.Prelude.{◌+◌, ◌*◌, ◌<◌, ◌≤◌, ◌≡◌, IfSome, length};
 
 // Standard input.
 const STDIN: i32 = 0;
 
-// A two-byte count; nothing came where the input ends before it.
-#[derive(Clone, Copy)]
-pub struct Count {
-    pub came: bool,
-    pub value: usize,
-}
-
-fn wide(b: u8) -> usize
-    ensures { (result ≡ b) × (result < 256) }
-{
-    b as usize
-}
-
-// Fills the slice; answers whether so many bytes came.
-pub fn fill(to: &mut [u8]) -> bool {
-    io::read_full(STDIN, to) == to.len()
+// Fills the slice; nothing where the input ends before.
+pub fn fill(to: &mut [u8]) -> Option<()> {
+    (io::read_full(STDIN, to) == to.len()).then_some(())
 }
 
 // Two bytes, high byte first.
 pub fn join(high: u8, low: u8) -> usize
     ensures { (result ≡ 256 * high + low) × (result < 65536) }
 {
-    256 * wide(high) + wide(low)
+    usize::from(u16::from_be_bytes([high, low]))
 }
 
-pub fn read_count() -> Count
-    ensures { result.value < 65536 }
+// A two-byte count; nothing where the input ends before it.
+pub fn read_count() -> Option<usize>
+    ensures { IfSome result (λ count. count < 65536) }
 {
     let mut two = [0u8; 2];
-    let came = fill(&mut two);
-    let value = join(two[0], two[1]);
-    Count { came, value }
+    fill(&mut two)?;
+    Some(join(two[0], two[1]))
+}
+
+// Reads a count and so many bytes, and lends the part of the space that they fill; nothing where the input ends before them. Only this
+// project's programs call it. The space is a slice, whose length the programs' buffers are tested for by `short_file_buffer` (`coder`).
+pub fn read_counted(space: &mut [u8]) -> Option<&mut [u8]>
+    requires { 65536 ≤ length space.old }
+    ensures { IfSome result (λ part. length part.now < 65536) }
+{
+    let count = read_count()?;
+    let part = &mut space[..count];
+    fill(part)?;
+    Some(part)
 }

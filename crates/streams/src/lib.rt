@@ -4,6 +4,11 @@
 pub mod input;
 pub mod text;
 
+ghost use Rattle.std.specs.Prelude.{◌<◌, ◌^◌};
+
+use std::fmt::Display;
+use text::Line;
+
 // Standard output.
 const STDOUT: i32 = 1;
 
@@ -14,4 +19,14 @@ pub fn write(text: &[u8]) {
 // Input that ends early.
 pub fn short_input() {
     write(b"short input\n");
+}
+
+// Writes a text of at most N bytes at once. Only this project's programs call it.
+pub fn print<const N: usize, D: Display + Drop>(text: D)
+    requires { N < 2 ^ 32 }
+{
+    let mut line = Line::<N>::new();
+    // a line takes all that fits, and never gives an error
+    let _ = line.print(text);
+    write(line.as_slice());
 }

@@ -1,64 +1,120 @@
-// Text that is put together in a lent slice, piece by piece; a full text stays as it is. A line of output is then one write. Only this
-// project's programs call these.
-ghost use Rattle.std.specs.Prelude.{◌≤◌, length};
+// A line of output, put together before it is written, so that it is one write.
+ghost use Rattle.std.specs.Prelude.{◌≡◌, ◌≤◌, List, [], ◌∷◌, ◌++◌, length, take, Some, IsOk, OnOk, IfSome};
+ghost use Rattle.std.specs.Fmt.{decimal};
+ghost use Rattle.streams.specs.Texts.{hexed};
 
-// A half of a byte in upper-case hexadecimal.
-fn glyph(half: u8) -> u8 {
-    let h = half % 16;
-    if h < 10 { b'0' + h } else { b'A' + (h - 10) }
+use std::fmt::{self, Write};
+use std::marker::Model;
+
+// At most N bytes of text; a full line stays as it is, and what does not fit is left out.
+#[derive(Drop)]
+pub struct Line<const N: usize> {
+    bytes: [u8; N],
+    len: usize,
 }
 
-// One byte more at a place of the text, and the next place; a full text stays as it is. Only this project's programs call it.
-pub fn push(text: &mut [u8], at: usize, b: u8) -> usize
-    requires { at ≤ length text.old }
-    ensures { result ≤ length text.old }
-{
-    if at < text.len() {
-        text[at] = b;
-        return at + 1;
-    }
-    at
+// A line is the text that it holds.
+impl<const N: usize> Model for Line<N> {
+    ghost use Rattle.std.specs.Prelude.{ℕ, ◌≤◌, List, take};
+
+    ghost Value = { List ℕ };
+
+    ghost view = { λ line. take line.len line.bytes };
+
+    ghost invariant = { λ line. line.len ≤ N };
 }
 
-// The bytes in hexadecimal, `-` where there are none. Only this project's programs call it.
-pub fn push_hex(text: &mut [u8], from: usize, bytes: &[u8]) -> usize
-    requires { from ≤ length text.old }
-    ensures { result ≤ length text.old }
-{
-    if bytes.len() == 0 {
-        return push(text, from, b'-');
+impl<const N: usize> Line<N> {
+    pub fn new() -> Self
+        ensures { result ≡ [] }
+    {
+        Line {
+            bytes: [0; N],
+            len: 0,
+        }
     }
-    let mut at = from;
-    let mut i = 0;
-    while i < bytes.len() {
-        let b = bytes[i];
-        at = push(text, at, glyph(b / 16));
-        at = push(text, at, glyph(b % 16));
-        i += 1;
+
+    // One byte more.
+    pub fn push(&mut self, b: u8)
+        ensures { self.new ≡ take N (self.old ++ b ∷ []) }
+    {
+        if self.len < N {
+            self.bytes[self.len] = b;
+            self.len += 1;
+        }
     }
-    at
+
+    // These bytes as they are.
+    #[tactic(auto, using(crate::proofs::Full::take_whole, crate::proofs::Full::take_next))]
+    pub fn push_all(&mut self, bytes: &[u8])
+        ensures { self.new ≡ take N (self.old ++ bytes.now) }
+    {
+        // a line is never longer than its room
+        let _ = &self.len;
+        for b in bytes {
+            self.push(*b);
+        }
+    }
+
+    // A printed text.
+    pub fn print<D: fmt::Display + Drop>(&mut self, text: D) -> fmt::Result
+        ensures { OnOk result (IfSome (D.output text) (λ printed. self.new ≡ take N (self.old ++ printed))) }
+    {
+        // a line is never longer than its room
+        let _ = &self.len;
+        self.write(text)
+    }
+
+    pub fn as_slice(&self) -> &[u8]
+        ensures text { result.now ≡ self.now }
+        ensures fits { length result.now ≤ N }
+    {
+        &self.bytes[..self.len]
+    }
 }
 
-// These bytes as they are. Only this project's programs call it.
-pub fn push_all(text: &mut [u8], from: usize, bytes: &[u8]) -> usize
-    requires { from ≤ length text.old }
-    ensures { result ≤ length text.old }
-{
-    let mut at = from;
-    let mut i = 0;
-    while i < bytes.len() {
-        at = push(text, at, bytes[i]);
-        i += 1;
+impl<const N: usize> fmt::Write for Line<N> {
+    ghost write_str_gives = { λ old text new. new ≡ take N (old ++ text) };
+
+    fn write_str(&mut self, s: &str) -> fmt::Result
+        ensures ok { IsOk result }
+        ensures text { self.new ≡ take N (self.old ++ s.now) }
+    {
+        self.push_all(s.as_bytes());
+        Ok(())
     }
-    at
 }
 
-// A number in decimal. Only this project's programs call it.
-pub fn push_number(text: &mut [u8], from: usize, n: usize) -> usize
-    requires { from ≤ length text.old }
-    ensures { result ≤ length text.old }
-{
-    let mut digits = [0u8; 20];
-    let count = io::decimal(n as u64, &mut digits);
-    push_all(text, from, &digits[..count])
+// What the line of a command or a case begins with: its number, and the number of its answer.
+#[derive(Clone, Copy)]
+pub struct Head {
+    pub number: usize,
+    pub answer: u8,
+}
+
+impl fmt::Display for Head {
+    ghost output = { λ head. Some (decimal head.number ++ 32 ∷ decimal head.answer) };
+
+    fn fmt<W: fmt::Write>(&self, f: &mut fmt::Formatter<W>) -> fmt::Result {
+        write!(f, "{} {}", self.number, self.answer)
+    }
+}
+
+// Bytes that are printed in upper-case hexadecimal, `-` where there are none.
+#[derive(Clone, Copy)]
+pub struct Hex<'a>(pub &'a [u8]);
+
+impl fmt::Display for Hex<'_> {
+    ghost output = { λ hex. Some (hexed hex.0.now) };
+
+    fn fmt<W: fmt::Write>(&self, f: &mut fmt::Formatter<W>) -> fmt::Result {
+        let bytes = self.0;
+        if bytes.is_empty() {
+            return f.write_str("-");
+        }
+        for byte in bytes {
+            write!(f, "{byte:02X}")?;
+        }
+        Ok(())
+    }
 }

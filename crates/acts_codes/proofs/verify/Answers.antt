@@ -1,13 +1,8 @@
 -- `acts_codes::verify` meets its contract: the entry was lent as a part and came back.
-use native.Mathlib.Omega.{arith}
 use Rattle.card.specs.Codes.{verify}
-use Rattle.acts_codes.proofs.Entering.{inside, coded}
+use Rattle.acts_codes.proofs.Entering.{coded}
 use Rattle.acts_codes.proofs.verify.Goals as goal
 
-pub slice_bounds-verify-end : goal.slice_bounds-verify-end
-slice_bounds-verify-end c = omega (arith, inside c.requires.ready)
-
 pub returns : goal.returns
-returns c = coded c.requires.ready c.args.c c.requires.c_bound.0 (λ k n. verify k c.args.s n c.args.given.now) _ _
-    c.verify.auto.e
-    c.verify.ensures
+returns c = let a = c.args in
+    coded c.requires.ready a.c c.requires.c_bound.0 (λ e n. verify e a.s n a.given.now) _ _ _ _ c.entry.ensures c.verify.auto.e c.verify.ensures

@@ -7,7 +7,7 @@ use Rattle.acts_marks.proofs.rehabilitate.Goals as goal
 
 pub returns-in_default : goal.returns-in_default
 returns-in_default c = none marks (λ r e b. rehabilitate r e c.args.s) c.requires
-    c.in_default.is c.refusal.ensures
+    c.in_default.is (rw c.from.ensures at c.refusal.ensures)
 
 pub returns : goal.returns
 returns c = let a = c.args in

@@ -8,7 +8,7 @@ use Rattle.acts_reading.proofs.read_binary.Goals as goal
 
 pub returns-in_default : goal.returns-in_default
 returns-in_default c = none reads (λ r e b. read_binary r e b c.args.s c.args.at c.args.n) c.requires.ready
-    c.in_default.is c.refusal.ensures c.args.room.now
+    c.in_default.is (rw c.from.ensures at c.refusal.ensures) c.args.room.now
 
 pub read_binary-requires : goal.read_binary-requires
 read_binary-requires c = (full c.stand-p.ensures, search rules)

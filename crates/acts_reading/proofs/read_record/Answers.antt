@@ -8,7 +8,7 @@ use Rattle.acts_reading.proofs.read_record.Goals as goal
 
 pub returns-in_default : goal.returns-in_default
 returns-in_default c = none reads (λ r e b. read_record r e b c.args.s c.args.number c.args.mode c.args.n) c.requires.ready
-    c.in_default.is c.refusal.ensures c.args.room.now
+    c.in_default.is (rw c.from.ensures at c.refusal.ensures) c.args.room.now
 
 pub read_record-requires : goal.read_record-requires
 read_record-requires c = record { stands = granted c.stand-p.ensures; n_in_bounds = search rules }

@@ -7,7 +7,7 @@ use Rattle.acts_reading.proofs.seek_record.Goals as goal
 
 pub returns-in_default : goal.returns-in_default
 returns-in_default c = none reads (λ r e b. seek_record r e b c.args.s c.args.mode c.args.pattern.now) c.requires.ready
-    c.in_default.is c.refusal.ensures
+    c.in_default.is (rw c.from.ensures at c.refusal.ensures)
 
 pub seek_record-requires : goal.seek_record-requires
 seek_record-requires c = record { stands = granted c.stand-p.ensures; mode_bound = c.requires.mode_bound }

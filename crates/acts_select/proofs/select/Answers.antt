@@ -1,59 +1,44 @@
 -- `acts_select::select` meets its contract: the head that was lent is the image's, and each way out is one law.
 use mathlib.Core.Path.{◌∙◌}
 use native.Mathlib.Omega.{arith}
-use Rattle.shelf.proofs.Heading.{head_length}
-use Rattle.acts_select.proofs.Finding.{directory_readable, file_readable, heading, here, to_directory, to_file, to_nothing}
+use Rattle.acts_select.proofs.Finding.{directory_readable, file_readable, here, to_directory, to_file, to_nothing}
 use Rattle.acts_select.proofs.select.Goals as goal
-use Rattle.acts_select.proofs.select.Goals.{then-d-i, else-d-i+else-i-f}
+use Rattle.acts_select.proofs.select.Goals.{in-Some, in_default+in-Some-find_file}
 
-pub slice_bounds-head-end : goal.slice_bounds-head-end
-slice_bounds-head-end c = head_length c.args.image.now _ c.image_index-i.ensures.is c.requires.image
+pub find_directory-requires : goal.find_directory-requires
+find_directory-requires c = here c.requires _ _ c.of-head.result.head c.of-head.ensures
 
-pub find_directory-d-requires : goal.find_directory-d-requires
-find_directory-d-requires c = let h = heading c.requires _ c.image_index-i.ensures.is in
-    record { head = h; here_lt_directories = here c.requires _ c.image_index-i.ensures.is }
-
-pub found_directory-found-requires : goal.found_directory-found-requires
-found_directory-found-requires c = record { head = heading c.requires _ c.image_index-i.ensures.is; d_lt_directories = c.if-d-i.true }
-
-pub find_file-f-requires : goal.find_file-f-requires
-find_file-f-requires c = heading c.requires _ c.image_index-i.ensures.is
-
-pub returns-then-i-f : goal.returns-then-i-f
-returns-then-i-f c = to_nothing c.requires _ c.image_index-i.ensures.is _ _ _ _
-    c.find_directory-d.ensures
-    c.if-d-i.false
-    c.find_file-f.ensures
-    c.if-i-f.true
-    c.refusal.ensures
-
-pub found_file-found-requires : goal.found_file-found-requires
-found_file-found-requires c = record { head = heading c.requires _ c.image_index-i.ensures.is; f_lt_files = c.if-i-f.false }
+pub returns-in_default-find_file : goal.returns-in_default-find_file
+returns-in_default-find_file c = to_nothing c.requires _ _ c.of-head.result.head c.of-head.ensures _ _
+    c.in_default.ensures
+    c.in_default-find_file.ensures
+    (rw c.from.ensures at c.refusal.ensures)
 
 pub overflow_add-end : goal.overflow_add-end
-overflow_add-end c = elim c.if-d-i.branch [
-  | then-d-i w ↦ omega (arith, (directory_readable _ _ _ (w.found-is ∙ w.found_directory-found.ensures)).early)
-  | else-d-i+else-i-f w ↦ omega (arith, (file_readable _ _ _ _ (w.found-is ∙ w.found_file-found.ensures)).early)
+overflow_add-end c = elim c.match-find_directory.branch [
+  | in-Some w ↦ omega (arith, (directory_readable _ _ _ (w.found-is ∙ w.found_directory-found.ensures)).early)
+  | in_default+in-Some-find_file w ↦ omega (arith, (file_readable _ _ _ _ (w.found-is ∙ w.found_file.ensures)).early)
 ]
 
 pub slice_bounds-selected-end : goal.slice_bounds-selected-end
-slice_bounds-selected-end c = elim c.if-d-i.branch [
-  | then-d-i w ↦ (directory_readable _ _ _ (w.found-is ∙ w.found_directory-found.ensures)).inside
-  | else-d-i+else-i-f w ↦ (file_readable _ _ _ _ (w.found-is ∙ w.found_file-found.ensures)).inside
+slice_bounds-selected-end c = elim c.match-find_directory.branch [
+  | in-Some w ↦ (directory_readable _ _ _ (w.found-is ∙ w.found_directory-found.ensures)).inside
+  | in_default+in-Some-find_file w ↦ (file_readable _ _ _ _ (w.found-is ∙ w.found_file.ensures)).inside
 ]
 
 pub selected-requires : goal.selected-requires
-selected-requires c = elim c.if-d-i.branch [
-  | then-d-i w ↦ let r = directory_readable _ _ _ (w.found-is ∙ w.found_directory-found.ensures) in (r.all, r.few)
-  | else-d-i+else-i-f w ↦ let r = file_readable _ _ _ _ (w.found-is ∙ w.found_file-found.ensures) in (r.all, r.few)
+selected-requires c = elim c.match-find_directory.branch [
+  | in-Some w ↦ let r = directory_readable _ _ _ (w.found-is ∙ w.found_directory-found.ensures) in (r.all, r.few)
+  | in_default+in-Some-find_file w ↦ let r = file_readable _ _ _ _ (w.found-is ∙ w.found_file.ensures) in (r.all, r.few)
 ]
 
 pub returns : goal.returns
 returns c = let r = c.requires in
-    let i = c.image_index-i.ensures.is in
-    elim c.if-d-i.branch [
-      | then-d-i w ↦ to_directory r _ i _ _ _ _ c.find_directory-d.ensures w.if-d-i.true (w.found-is ∙ w.found_directory-found.ensures) c.selected.ensures
-      | else-d-i+else-i-f w ↦
-          to_file r _ i _ _ _ _ _ c.find_directory-d.ensures w.if-d-i.false w.find_file-f.ensures w.if-i-f.false
-          (w.found-is ∙ w.found_file-found.ensures) c.selected.ensures
+    let k = c.of-head.result.head in
+    let lent = c.of-head.ensures in
+    elim c.match-find_directory.branch [
+      | in-Some w ↦ to_directory r _ _ k lent _ _ _ _ w.in-Some.ensures.0 w.in-Some.ensures.1 (w.found-is ∙ w.found_directory-found.ensures) c.selected.ensures
+      | in_default+in-Some-find_file w ↦
+          to_file r _ _ k lent _ _ _ _ w.in_default.ensures w.in-Some-find_file.ensures.0 w.in-Some-find_file.ensures.1
+          (w.found-is ∙ w.found_file.ensures) c.selected.ensures
     ]

@@ -16,4 +16,4 @@ overflow_add-end c = let pre = c.requires in
     omega (arith, c.start-start.ensures)
 
 pub returns : goal.returns
-returns c = here c.spot-site.ensures _ _ c.start-start.ensures c.wide_word.ensures.0
+returns c = here c.spot-site.ensures _ _ c.start-start.ensures c.from.ensures

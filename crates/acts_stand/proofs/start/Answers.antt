@@ -9,7 +9,7 @@ loop-g-init c = (no_sizes _, omega arith)
 
 pub loop-g-preserved : goal.loop-g-preserved
 loop-g-preserved c = let known = c.requires.indexed.is in
-    (next_size _ _ known _ _ _ c.loop-g.invariant.0 (c.wide_word-sum.ensures.0 ∙ c.word.ensures), omega arith)
+    (next_size _ _ known _ _ _ c.loop-g.invariant.0 (c.from-sum.ensures ∙ c.word.ensures), omega arith)
 
 pub returns : goal.returns
 returns c = let known = c.requires.indexed.is in

@@ -7,7 +7,7 @@ use Rattle.acts_writing.proofs.update_binary.Goals as goal
 
 pub returns-in_default : goal.returns-in_default
 returns-in_default c = none writes (λ r e b. update_binary r e b c.args.s c.args.at c.args.new.now) c.requires
-    c.in_default.is c.refusal.ensures
+    c.in_default.is (rw c.from.ensures at c.refusal.ensures)
 
 pub update_binary-requires : goal.update_binary-requires
 update_binary-requires c = full c.stand-p.ensures

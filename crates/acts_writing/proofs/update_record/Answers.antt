@@ -7,7 +7,7 @@ use Rattle.acts_writing.proofs.update_record.Goals as goal
 
 pub returns-in_default : goal.returns-in_default
 returns-in_default c = none writes (λ r e b. update_record r e b c.args.s c.args.number c.args.mode c.args.new.now) c.requires
-    c.in_default.is c.refusal.ensures
+    c.in_default.is (rw c.from.ensures at c.refusal.ensures)
 
 pub update_record-w-requires : goal.update_record-w-requires
 update_record-w-requires c = granted c.stand-p.ensures

@@ -10,10 +10,9 @@ use lib.ListN.{length, get_or}
 use Rattle.codings.specs.Answers.{done, judge}
 use Rattle.codings.specs.Admin.{Setting, setting, among, is_mode, mnc_in, fitting, decode, changed, encode}
 use Rattle.codings.specs.RoundTrips.{AdminCoding}
-use Rattle.codings.specs.declared.admin.MncLength.{MncLength}
-use Rattle.codings.specs.declared.admin.MncLength.TheVariants.{Absent, Digits}
-use Rattle.codings.proofs.Laws.Answers.{wrong_value, right, was_done, was_five, was_six, refusal}
-use Rattle.codings.proofs.Laws.Exact.{answer_of, value_of, clash}
+use Rattle.std.specs.Prelude.{Option, Some, None}
+use Rattle.codings.proofs.Laws.Answers.{answer_of, value_of, wrong_value, right, was_done, was_five, was_six, refusal}
+use Rattle.codings.proofs.Laws.Exact.{clash}
 use Rattle.codings.proofs.Laws.Admin.{short, no_room}
 use Rattle.codings.proofs.Laws.AdminTrip.{encoded, undecoded, decoded}
 
@@ -39,23 +38,23 @@ decode_six l = (
   where
     go : 3 ≤ length l → ((v : Setting) (old : List ℕ) → ¬ (encode v old ≡ done l)) → (t : Bool)
         → is_mode (get_or l 0 0) && fitting l (mnc_in l) ≡ t
-        → (judge (leb 3 (length l)) (is_mode (get_or l 0 0) && fitting l (mnc_in l)) (setting 0 Absent) (setting (get_or l 0 0) (mnc_in l))).answer ≡ 6
+        → (judge (leb 3 (length l)) (is_mode (get_or l 0 0) && fitting l (mnc_in l)) (setting 0 None) (setting (get_or l 0 0) (mnc_in l))).answer ≡ 6
     go h k true e =
-        absurd (k (decode l).value l (decoded l (sym (ap answer_of (right (leb 3 (length l)) _ (setting 0 Absent) (setting (get_or l 0 0) (mnc_in l)) (le-leb _ _ h) e)))))
-    go h k false e = sym (ap answer_of (wrong_value (leb 3 (length l)) _ (setting 0 Absent) (setting (get_or l 0 0) (mnc_in l)) (le-leb _ _ h) e))
+        absurd (k (decode l).value l (decoded l (sym (ap answer_of (right (leb 3 (length l)) _ (setting 0 None) (setting (get_or l 0 0) (mnc_in l)) (le-leb _ _ h) e)))))
+    go h k false e = sym (ap answer_of (wrong_value (leb 3 (length l)) _ (setting 0 None) (setting (get_or l 0 0) (mnc_in l)) (le-leb _ _ h) e))
 
 -- whether a setting fits hangs on the length alone
-same_fit : (l k : List ℕ) → length k ≡ length l → (m : MncLength) → fitting k m ≡ fitting l m
+same_fit : (l k : List ℕ) → length k ≡ length l → (m : Option ℕ) → fitting k m ≡ fitting l m
 unfolding fitting
-same_fit l k e Absent = rw e
-same_fit l k e (Digits n) = rw e
+same_fit l k e None = rw e
+same_fit l k e (Some n) = rw e
 
 was_setting : (v : Setting) (l file : List ℕ) → 3 ≤ length l → length file ≡ length l → decode file ≡ done v → (encode v l).answer ≡ 0
 unfolding decode encode
 was_setting v l file h e d =
     let w = was_done _ _ _ _ (ap answer_of d) in
     let s : setting (get_or file 0 0) (mnc_in file) ≡ v =
-    ap value_of (right (leb 3 (length file)) (is_mode (get_or file 0 0) && fitting file (mnc_in file)) (setting 0 Absent) (setting (get_or file 0 0) (mnc_in file)) w.0 w.1 ∙ d)
+    ap value_of (right (leb 3 (length file)) (is_mode (get_or file 0 0) && fitting file (mnc_in file)) (setting 0 None) (setting (get_or file 0 0) (mnc_in file)) w.0 w.1 ∙ d)
     in
     let fit : is_mode v.mode && fitting file v.mnc ≡ true = rw (← s) w.1 in
     sym (ap answer_of (right (leb 3 (length l)) (is_mode v.mode && fitting l v.mnc) l (changed l v.mode v.mnc) (le-leb _ _ h) (rw (← same_fit l file e v.mnc) fit)))

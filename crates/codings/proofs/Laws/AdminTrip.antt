@@ -12,20 +12,19 @@ use lib.Seq.{get_or-set_same, get_or-set_other, set-get_or}
 use Rattle.codings.specs.Answers.{done}
 use Rattle.codings.specs.Admin.{Setting, setting, is_mode, two_or_three, mnc_in, fitting, decode, changed, encode}
 use Rattle.codings.specs.RoundTrips.{Undecoded}
-use Rattle.codings.specs.declared.admin.MncLength.{MncLength}
-use Rattle.codings.specs.declared.admin.MncLength.TheVariants.{Absent, Digits}
+use Rattle.std.specs.Prelude.{Option, Some, None}
 use Rattle.codings.proofs.Laws.Answers.{right, was_done, either}
 use Rattle.codings.proofs.Laws.Tests.{both}
 use Rattle.codings.proofs.Laws.Admin.{small, absent_in, digits_in, without, reads}
 
 module _ (l : List ℕ) (m : ℕ) (h : 3 ≤ length l) (em : is_mode m ≡ true) where
-  back : (v : MncLength) → fitting l v ≡ true → decode (changed l m v) ≡ done (setting m v)
+  back : (v : Option ℕ) → fitting l v ≡ true → decode (changed l m v) ≡ done (setting m v)
   unfolding changed fitting
-  back Absent f =
+  back None f =
       let at0 = get_or-set_same l 0 m 0 (omega arith) in
       sym (without (set l 0 m) (simp length-set h) true (rw (at0, em)) refl (simp length-set (eqb-true _ _ f)))
-      ∙ ap (λ (x : ℕ). done (setting x Absent)) at0
-  back (Digits n) f =
+      ∙ ap (λ (x : ℕ). done (setting x None)) at0
+  back (Some n) f =
       let g = both (not (eqb (length l) 3)) (two_or_three n) f in
       let w = 16 * (get_or l 3 0 / 16) + n in
       let k : length l ≡ 3 → ⊥ = eqb-false _ _ (not-true _ g.0) in
@@ -34,7 +33,7 @@ module _ (l : List ℕ) (m : ℕ) (h : 3 ≤ length l) (em : is_mode m ≡ true)
       let low : n ≡ w % 16 = omega (arith, small n true (sym g.1) refl) in
       sym
       (reads (set (set l 0 m) 3 w) (simp length-set h) true (rw (at0, em)) refl (simp length-set k) n (rw at3 low) true (sym g.1) refl)
-      ∙ ap (λ (x : ℕ). done (setting x (Digits n))) at0
+      ∙ ap (λ (x : ℕ). done (setting x (Some n))) at0
 
 pub encoded : (v : Setting) (l : List ℕ) → (encode v l).answer ≡ 0 → decode (encode v l).value ≡ done v
 unfolding encode
@@ -48,15 +47,15 @@ encoded v l a =
 same : (l : List ℕ) → Undecoded l l
 same l = record { long = refl; high = refl; rest = λ i a b. refl }
 
-keeps : (l : List ℕ) (m : ℕ) (v : MncLength) → 3 ≤ length l → fitting l v ≡ true → Undecoded l (changed l m v)
+keeps : (l : List ℕ) (m : ℕ) (v : Option ℕ) → 3 ≤ length l → fitting l v ≡ true → Undecoded l (changed l m v)
 unfolding changed fitting
-keeps l m Absent h f =
+keeps l m None h f =
     record {
       long = length-set l 0 m;
       high = rw (get_or-set_other l 0 3 m 0 (λ z. omega arith));
       rest = λ i a b. get_or-set_other l 0 i m 0 a;
     }
-keeps l m (Digits n) h f =
+keeps l m (Some n) h f =
     let g = both (not (eqb (length l) 3)) (two_or_three n) f in
     let w = 16 * (get_or l 3 0 / 16) + n in
     let k : length l ≡ 3 → ⊥ = eqb-false _ _ (not-true _ g.0) in
@@ -90,5 +89,5 @@ unfolding decode encode
 decoded l a =
     let d = was_done _ _ _ _ a in
     let m = get_or l 0 0 in
-    rw (← right (leb 3 (length l)) (is_mode m && fitting l (mnc_in l)) (setting 0 Absent) (setting m (mnc_in l)) d.0 d.1)
+    rw (← right (leb 3 (length l)) (is_mode m && fitting l (mnc_in l)) (setting 0 None) (setting m (mnc_in l)) d.0 d.1)
     (sym (right (leb 3 (length l)) (is_mode m && fitting l (mnc_in l)) l (changed l m (mnc_in l)) d.0 d.1) ∙ ap done (forth l))

@@ -1,10 +1,18 @@
 -- Each way out of a judgement.
-use mathlib.Core.Path.{◌≡◌, refl}
+use Prim.Native.Nat.{ℕ}
+use mathlib.Core.Path.{◌≡◌, refl, ap, sym}
 use mathlib.Core.Bool.{Bool, true, false}
 use native.Mathlib.Omega.{arith}
-use Rattle.codings.specs.Answers.{outcome, judge, number}
-use Rattle.codings.specs.declared.Answer.{Answer}
-use Rattle.codings.specs.declared.Answer.TheVariants.{Done, Length, Value}
+use Rattle.codings.specs.Answers.{Outcome, outcome, judge, code, number, told, decoded}
+use Rattle.std.specs.Prelude.{Result, Ok, Err}
+use Rattle.codings.specs.declared.Refused.{Refused}
+use Rattle.codings.specs.declared.Refused.TheVariants.{Length, Value}
+
+abbrev pub answer_of : {A : Type 0} → Outcome A → ℕ
+answer_of o = o.answer
+
+abbrev pub value_of : {A : Type 0} → Outcome A → A
+value_of o = o.value
 
 module _ {A : Type 0} (fits valid : Bool) (left v : A) where
   pub wrong-length : fits ≡ false → outcome 5 left ≡ judge fits valid left v
@@ -55,13 +63,29 @@ module _ {A : Type 0} where
   refusal false valid left v n = refl
 
 -- the paper's numbers tell the answers apart
-pub apart : (a b : Answer) → number a ≡ number b → a ≡ b
-apart Done Done e = refl
-apart Done Length e = absurd (omega arith)
-apart Done Value e = absurd (omega arith)
-apart Length Done e = absurd (omega arith)
-apart Length Length e = refl
-apart Length Value e = absurd (omega arith)
-apart Value Done e = absurd (omega arith)
-apart Value Length e = absurd (omega arith)
-apart Value Value e = refl
+refuses : (e : Refused) → ◌≡◌ {A = ℕ} 0 (code e) → ⊥
+refuses Length z = omega arith
+refuses Value z = omega arith
+
+codes : (e f : Refused) → code e ≡ code f → e ≡ f
+codes Length Length z = refl
+codes Length Value z = absurd (omega arith)
+codes Value Length z = absurd (omega arith)
+codes Value Value z = refl
+
+apart : (r s : Result (Unit {0}) Refused) → number r ≡ number s → r ≡ s
+apart (Ok u) (Ok v) z = refl
+apart (Ok u) (Err f) z = absurd (refuses f z)
+apart (Err e) (Ok v) z = absurd (refuses e (sym z))
+apart (Err e) (Err f) z = ap Err (codes e f z)
+
+module _ {A : Type 0} where
+  -- an outcome tells a decoder's answer and its value, and an encoder's answer and the bytes
+  pub one_read : (left : A) (r s : Result A Refused) → decoded left r ≡ decoded left s → r ≡ s
+  one_read left (Ok v) (Ok w) z = ap (λ (o : Outcome A). Ok o.value) z
+  one_read left (Ok v) (Err f) z = absurd (refuses f (ap answer_of z))
+  one_read left (Err e) (Ok w) z = absurd (refuses e (sym (ap answer_of z)))
+  one_read left (Err e) (Err f) z = ap Err (codes e f (ap answer_of z))
+
+  pub one_told : (r s : Result (Unit {0}) Refused) (x y : A) → told r x ≡ told s y → (r ≡ s) × (x ≡ y)
+  one_told r s x y z = (apart r s (ap answer_of z), ap value_of z)

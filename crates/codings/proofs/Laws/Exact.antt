@@ -10,13 +10,7 @@ use lib.Dec.{eqb}
 use lib.ListN.{length}
 use Rattle.codings.specs.Answers.{Outcome, done, judge}
 use Rattle.codings.specs.RoundTrips.{Coding}
-use Rattle.codings.proofs.Laws.Answers.{wrong-length, wrong_value, right, was_five, was_six, refusal}
-
-abbrev pub answer_of : {A : Type 0} → Outcome A → ℕ
-answer_of o = o.answer
-
-abbrev pub value_of : {A : Type 0} → Outcome A → A
-value_of o = o.value
+use Rattle.codings.proofs.Laws.Answers.{answer_of, value_of, wrong-length, wrong_value, right, was_five, was_six, refusal}
 
 -- no answer is two numbers
 pub clash : {A : Type 0} (o : Outcome A) → o.answer ≡ 0 → o.answer ≡ 6 → ⊥

@@ -7,12 +7,12 @@ use native.Mathlib.Omega.{arith}
 use borrow.Author.Tests.{eq-eqb, lt-ltb, ltb-true, eqb-true}
 use lib.Dec.{eqb}
 use lib.ListN.{length, get_or, take, drop}
+use Rattle.std.specs.Prelude.{Option, Some, None}
 use Rattle.codings.specs.Answers.{done}
 use Rattle.fields.specs.Halves.{halves, joined}
 use Rattle.fields.specs.Text.{lead, filled}
-use Rattle.codings.specs.Network.{named, network, entry_in, decode, writable, bytes, encode}
-use Rattle.codings.specs.declared.network.Plmn.{Plmn}
-use Rattle.codings.specs.declared.network.Plmn.TheVariants.{Unused, Network}
+use Rattle.codings.specs.Network.{plmn, named, network, entry_in, decode, writable, bytes, encode}
+use Rattle.codings.specs.declared.network.Network.{Network}
 use Rattle.codings.proofs.Laws.Answers.{right, was_done}
 use Rattle.codings.proofs.Laws.Tests.{both}
 use Rattle.fields.proofs.Laws.Halves.{pair}
@@ -33,11 +33,11 @@ six a b c d e ha hb hc hd he =
     (rw (goes_on 10 d (e ∷ []) hd, goes_on 10 e [] he, lead_none 10))
     refl
 
-same : (m n m' n' : ℕ) → m ≡ m' → n ≡ n' → Network m n 2 ≡ Network m' n' 2
+same : (m n m' n' : ℕ) → m ≡ m' → n ≡ n' → plmn m n 2 ≡ plmn m' n' 2
 same m n m' n' p q = rw (p, q)
 
 -- a network's bytes read back
-numbered : (mcc mnc : ℕ) → mcc < 1000 → mnc < 100 → decode (bytes (Network mcc mnc 2)) ≡ done (Network mcc mnc 2)
+numbered : (mcc mnc : ℕ) → mcc < 1000 → mnc < 100 → decode (bytes (plmn mcc mnc 2)) ≡ done (plmn mcc mnc 2)
 unfolding bytes halves joined network
 numbered mcc mnc p q =
     sym
@@ -45,7 +45,7 @@ numbered mcc mnc p q =
     (a ∷ b ∷ c ∷ 15 ∷ d ∷ e ∷ [])
     (sym (pair a b (c ∷ 15 ∷ d ∷ e ∷ []) (omega arith) ∙ rw (pair c 15 (d ∷ e ∷ []) (omega arith), pair d e [] (omega arith))))
     true (six a b c d e (omega arith) (omega arith) (omega arith) (omega arith) (omega arith))
-    (Network mcc mnc 2) (same _ _ _ _ (omega arith) (omega arith)) refl refl)
+    (plmn mcc mnc 2) (same _ _ _ _ (omega arith) (omega arith)) refl refl)
   where
     a : ℕ
     a = mcc / 100
@@ -63,15 +63,15 @@ numbered mcc mnc p q =
     e = mnc % 10
 
 -- an entry that is written reads back
-back : (e : Plmn) → writable e ≡ true → decode (bytes e) ≡ done e
+back : (e : Option Network) → writable e ≡ true → decode (bytes e) ≡ done e
 unfolding writable bytes filled
-back Unused w = sym (free _ refl true refl refl)
-back (Network mcc mnc digits) w =
+back None w = sym (free _ refl true refl refl)
+back (Some n) w =
     let g = both _ _ w in
     let h = both _ _ g.1 in
-    rw (eqb-true digits 2 h.1) (numbered mcc mnc (ltb-true _ _ g.0) (ltb-true _ _ h.0))
+    numbered n.mcc n.mnc (ltb-true _ _ g.0) (ltb-true _ _ h.0) ∙ ap (λ (k : ℕ). done (plmn n.mcc n.mnc k)) (sym (eqb-true n.digits 2 h.1))
 
-pub encoded : (e : Plmn) (room : List ℕ) → (encode e room).answer ≡ 0 → decode (encode e room).value ≡ done e
+pub encoded : (e : Option Network) (room : List ℕ) → (encode e room).answer ≡ 0 → decode (encode e room).value ≡ done e
 unfolding encode
 encoded e room a =
     let d = was_done _ _ _ _ a in
@@ -115,8 +115,8 @@ unfolding entry_in writable bytes
 again (x ∷ y ∷ z ∷ []) e v = go (filled 255 (x ∷ y ∷ z ∷ [])) refl v
   where
     go : (t : Bool) → filled 255 (x ∷ y ∷ z ∷ []) ≡ t → t || named (halves (x ∷ y ∷ z ∷ [])) ≡ true
-        → (writable (elim t [ true ↦ Unused | false ↦ network (halves (x ∷ y ∷ z ∷ [])) ]) ≡ true)
-        × (bytes (elim t [ true ↦ Unused | false ↦ network (halves (x ∷ y ∷ z ∷ [])) ]) ≡ x ∷ y ∷ z ∷ [])
+        → (writable (elim t [ true ↦ None | false ↦ network (halves (x ∷ y ∷ z ∷ [])) ]) ≡ true)
+        × (bytes (elim t [ true ↦ None | false ↦ network (halves (x ∷ y ∷ z ∷ [])) ]) ≡ x ∷ y ∷ z ∷ [])
     go true p v = (refl, sym (filled_is 255 (x ∷ y ∷ z ∷ []) p))
     go false p v = forth x y z (told _ v)
 again (x ∷ y ∷ z ∷ w ∷ l) e v = absurd (omega arith)
@@ -129,5 +129,5 @@ unfolding decode encode
 decoded l room a r =
     let d = was_done _ _ _ _ a in
     let g = again l (eqb-true _ _ d.0) d.1 in
-    rw (← right (eqb (length l) 3) (filled 255 l || named (halves l)) Unused (entry_in l) d.0 d.1)
+    rw (← right (eqb (length l) 3) (filled 255 l || named (halves l)) None (entry_in l) d.0 d.1)
     (sym (right (eqb (length room) 3) (writable (entry_in l)) room (bytes (entry_in l)) (eq-eqb _ _ r) g.0) ∙ ap done g.1)

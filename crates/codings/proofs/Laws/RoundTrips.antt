@@ -14,7 +14,7 @@ use Rattle.codings.specs.Spn.{Provider}
 use Rattle.codings.specs.Iccid as iccid
 use Rattle.codings.specs.Imsi as imsi
 use Rattle.codings.specs.RoundTrips.{IccidCoding, ImsiCoding, NetworkCoding, SpnCoding, RoundTrips}
-use Rattle.codings.specs.declared.network.Plmn.TheVariants.{Unused}
+use Rattle.std.specs.Prelude.{None}
 use Rattle.codings.proofs.Laws.Exact.{coding}
 use Rattle.codings.proofs.Laws.NetworkTrip as networks
 use Rattle.codings.proofs.Laws.SpnTrip as spns
@@ -61,7 +61,7 @@ network_file = refl
 network_coding : NetworkCoding
 unfolding network.decode network.encode
 network_coding =
-    coding 3 (λ l. filled 255 l || network.named (halves l)) Unused network.entry_in network.writable network.bytes
+    coding 3 (λ l. filled 255 l || network.named (halves l)) None network.entry_in network.writable network.bytes
     networks.encoded networks.decoded (replicate 3 255) network_file
 
 -- the empty name

@@ -11,8 +11,7 @@ use lib.ListN.{length}
 use Rattle.codings.specs.Services.{read, write}
 use Rattle.codings.specs.RoundTrips.{ServiceTable}
 use Rattle.codings.specs.declared.services.Service.{Service}
-use Rattle.codings.proofs.Laws.Answers.{was_five, was_six, refusal}
-use Rattle.codings.proofs.Laws.Exact.{answer_of}
+use Rattle.codings.proofs.Laws.Answers.{answer_of, was_five, was_six, refusal}
 use Rattle.codings.proofs.Laws.Services.{short, none, no_table, no_service, no_place}
 use Rattle.codings.proofs.Laws.ServicesTrip.{written, untouched, unchanged, is_written}
 

@@ -1,6 +1,7 @@
 -- `entries::file` meets its contract: each field is the byte or word at its place.
-use Rattle.entries.proofs.Whole.{file_of}
+use Rattle.card.specs.Layout.{file_entry}
 use Rattle.entries.proofs.file.Goals as goal
 
 pub returns : goal.returns
-returns c = file_of _ _ _ _ c.word.ensures c.word-2.ensures
+unfolding file_entry
+returns c = cc

@@ -1,7 +1,7 @@
--- `entries::word` meets its contract: a word is made of two bytes.
-use mathlib.Core.Path.{refl}
-use Rattle.entries.proofs.Whole.{word_of}
+-- `entries::word` meets its contract: the word that two bytes make is the definition's.
+use Rattle.card.specs.Bytes.{word}
 use Rattle.entries.proofs.word.Goals as goal
 
 pub returns : goal.returns
-returns c = word_of _ _ _ _ refl c.join.ensures
+unfolding word
+returns c = c.from_be_bytes.ensures

@@ -19,6 +19,6 @@ pub returns : goal.returns
 returns c = let a = c.args in
     let call = c.play_on-played in
     record {
-      told = told a.answer.now call.new.room c.requires.answer_len call.auto.room a.image.now a.session a.command.now _ c.number.ensures.0 call.ensures.ends;
+      told = told a.answer.now call.new.room c.requires.answer_len call.auto.room a.image.now a.session a.command.now _ c.from.ensures call.ensures.ends;
       stays_ready = call.ensures.ready;
     }

@@ -7,4 +7,4 @@ returns-then-left-lt2 c = cut c.args.commands.now c.args.at c.if-left-lt2.true
 
 pub returns : goal.returns
 returns c = let a = c.args in
-    counted a.commands.now a.at _ _ c.wide_word.ensures.0 c.word.ensures
+    counted a.commands.now a.at _ _ c.from.ensures c.word.ensures

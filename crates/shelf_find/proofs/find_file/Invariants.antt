@@ -1,5 +1,5 @@
 -- `shelf_find::find_file` meets its contract: the invariant: what is left to search is what was to search.
-use Prim.Native.Nat.{◌≤◌, ◌-◌}
+use Prim.Native.Nat.{◌-◌}
 use mathlib.Core.Path.{◌≡◌}
 use Rattle.card.specs.Bytes.{first_from}
 use Rattle.card.specs.Layout.{file}
@@ -7,7 +7,4 @@ use Rattle.card.specs.Select.{named}
 use Rattle.shelf_find.proofs.find_file.Given as goal
 
 abbrev pub invariant-loop-f : goal.invariant-loop-f
-invariant-loop-f l = (l.f ≤ l.n) × (first_from (λ k. named l.here l.id (file l.head k)) l.n 0 ≡ first_from (λ k. named l.here l.id (file l.head k)) (l.n - l.f) l.f)
-
-abbrev pub decreases-loop-f : goal.decreases-loop-f
-decreases-loop-f l = l.n - l.f
+invariant-loop-f l = first_from (λ k. named l.here l.id (file l.head.shelf.bytes.now k)) l.head.shelf.index.files 0 ≡ first_from (λ k. named l.here l.id (file l.head.shelf.bytes.now k)) (l.head.shelf.index.files - l.f) l.f

@@ -4,4 +4,4 @@ use Rattle.shelf_find.proofs.named.Goals as goal
 
 pub returns : goal.returns
 unfolding named
-returns c = simp (c.file_home-home.ensures, c.file_identifier.ensures)
+returns c = simp (c.from-home.ensures, c.file_home.ensures, c.file_identifier.ensures)

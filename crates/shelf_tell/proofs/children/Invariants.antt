@@ -1,5 +1,5 @@
 -- `shelf_tell::children` meets its contract: the invariant: found counts the children among the first c directories.
-use Prim.Native.Nat.{◌≤◌, ◌-◌}
+use Prim.Native.Nat.{◌≤◌}
 use mathlib.Core.Path.{◌≡◌}
 use Rattle.card.specs.Bytes.{how_many}
 use Rattle.card.specs.Layout.{directory}
@@ -7,7 +7,4 @@ use Rattle.card.specs.Select.{child}
 use Rattle.shelf_tell.proofs.children.Given as goal
 
 abbrev pub invariant-loop-c : goal.invariant-loop-c
-invariant-loop-c l = (l.c ≤ l.n) × ((l.found ≤ l.c) × (l.found ≡ how_many l.c (λ k. child l.d k (directory l.head k))))
-
-abbrev pub decreases-loop-c : goal.decreases-loop-c
-decreases-loop-c l = l.n - l.c
+invariant-loop-c l = (l.found ≤ l.c) × (l.found ≡ how_many l.c (λ k. child l.d k (directory l.head.shelf.bytes.now k)))

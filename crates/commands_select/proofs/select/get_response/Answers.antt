@@ -10,11 +10,11 @@ use Rattle.commands_select.proofs.select.get_response.Goals as goal
 
 pub returns-then-s-eq0 : goal.returns-then-s-eq0
 returns-then-s-eq0 c = let a = c.args in
-    nothing_waits a.s a.n _ a.room.now c.if-s-eq0.true c.refusal.ensures
+    nothing_waits a.s a.n _ a.room.now c.if-s-eq0.true (rw c.from.ensures at c.refusal.ensures)
 
 pub returns-then-n-s : goal.returns-then-n-s
 returns-then-n-s c = let a = c.args in
-    asked_wrong a.s a.n _ a.room.now c.if-s-eq0.false c.if-n-s.true c.silent.ensures
+    asked_wrong a.s a.n _ a.room.now c.if-s-eq0.false c.if-n-s.true (rw c.from-then-n-s.ensures at c.silent.ensures)
 
 pub lay-requires : goal.lay-requires
 lay-requires c = let a = c.args in
@@ -26,4 +26,4 @@ pub returns : goal.returns
 returns c = let a = c.args in
     let h : a.n ≤ a.s.count = asked a.n a.s.count c.if-n-s.false in
     let l : 22 ≡ length a.s.waiting = search rules in
-    responds a.s a.n _ a.room.now _ c.if-s-eq0.false c.if-n-s.false (counted a.s.waiting _ _ 0 a.n (omega (arith, h, l)) c.dropped-session.ensures) c.lay.ensures
+    responds a.s a.n _ a.room.now _ c.if-s-eq0.false c.if-n-s.false (counted a.s.waiting _ _ 0 a.n (omega (arith, h, l)) c.dropped.ensures) c.lay.ensures

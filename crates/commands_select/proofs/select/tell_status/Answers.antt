@@ -10,4 +10,4 @@ use Rattle.commands_select.proofs.select.tell_status.Goals as goal
 pub returns : goal.returns
 returns c = let a = c.args in
     let l : length a.told ≡ 26 = search rules in
-    status a.s a.n a.told a.room.now _ _ (counted a.told _ _ 4 a.n (omega (arith, l)) c.dropped-session.ensures) c.lay.ensures
+    status a.s a.n a.told a.room.now _ _ (counted a.told _ _ 4 a.n (omega (arith, l)) c.dropped.ensures) c.lay.ensures

@@ -17,7 +17,7 @@ pub act-t-requires : goal.act-t-requires
 act-t-requires c =
     record {
       ready = c.requires.ready;
-      right = rightly c.wide-p.ensures.0 c.wide-q.ensures.0 c.wide-n.ensures.0 (tail c.args.command.now) c.requires.right;
+      right = rightly c.from-p.ensures c.from-q.ensures c.from-n.ensures (tail c.args.command.now) c.requires.right;
       in_bounds = omega (arith, length-take-le 256 c.args.room.now (omega arith));
     }
 
@@ -28,5 +28,5 @@ pub returns : goal.returns
 returns c = let a = c.args in
     let l : List _ = a.image.now in
     subst (λ (e : Effect). Ends (done l a.s.current e) c.tell.result c.act-t.new.image a.room.now c.tell.new.room)
-    (spelled a.i (head l) (opened l a.s.current) a.s c.wide-p.ensures.0 c.wide-q.ensures.0 c.wide-n.ensures.0 (tail a.command.now))
+    (spelled a.i (head l) (opened l a.s.current) a.s c.from-p.ensures c.from-q.ensures c.from-n.ensures (tail a.command.now))
     (carried a.room.now c.act-t.ensures c.act-t.auto.room c.requires.in_bounds.0 _ _ c.tell.ensures)

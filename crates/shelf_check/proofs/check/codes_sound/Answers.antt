@@ -8,11 +8,11 @@ use Rattle.shelf_check.proofs.check.codes_sound.Goals as goal
 
 pub returns-then-not-code_rules : goal.returns-then-not-code_rules
 unfolding code
-returns-then-not-code_rules c = codes_fail _ _ c.requires _ _ c.code.ensures c.code_rules.ensures (ap not c.if-not-code_rules.true)
+returns-then-not-code_rules c = codes_fail _ _ c.args.s.now.whole _ _ c.code.ensures c.code_rules.ensures (ap not c.if-not-code_rules.true)
 
 pub code-requires-2 : goal.code-requires-2
-code-requires-2 c = let p = codes_inside _ _ c.requires in omega arith
+code-requires-2 c = let p = codes_inside _ _ c.args.s.now.whole in omega arith
 
 pub returns : goal.returns
 unfolding code
-returns c = codes_then _ _ c.requires _ _ _ _ c.code.ensures c.code_rules.ensures (ap not c.if-not-code_rules.false) c.code-2.ensures c.code_rules-2.ensures
+returns c = codes_then _ _ c.args.s.now.whole _ _ _ _ c.code.ensures c.code_rules.ensures (ap not c.if-not-code_rules.false) c.code-2.ensures c.code_rules-2.ensures

@@ -3,10 +3,10 @@ use Rattle.shelf_check.proofs.Sections.{tally_not, tally_is, files_fail, files_t
 use Rattle.shelf_check.proofs.check.files_sound.Goals as goal
 
 pub bytes_sound-requires : goal.bytes_sound-requires
-bytes_sound-requires c = record { whole = c.requires.whole; sum_value = (tally_is _ _ _ c.each_file-t.ensures _ c.in-Sum.is).1 }
+bytes_sound-requires c = (tally_is _ _ _ c.in-Some.ensures).1
 
-pub returns-in-Unsound : goal.returns-in-Unsound
-returns-in-Unsound c = files_fail _ _ c.requires.whole (tally_not _ _ _ c.each_file-t.ensures c.in-Unsound.is)
+pub returns-in-None : goal.returns-in-None
+returns-in-None c = files_fail _ _ c.args.s.now.whole (tally_not _ _ c.in-None.ensures)
 
-pub returns-in-Sum : goal.returns-in-Sum
-returns-in-Sum c = files_then _ _ c.requires.whole _ (tally_is _ _ _ c.each_file-t.ensures _ c.in-Sum.is).0 c.bytes_sound.ensures
+pub returns-in-Some : goal.returns-in-Some
+returns-in-Some c = files_then _ _ c.args.s.now.whole _ (tally_is _ _ _ c.in-Some.ensures).0 c.bytes_sound.ensures

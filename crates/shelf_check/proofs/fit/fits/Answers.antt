@@ -3,4 +3,4 @@ use Rattle.shelf_check.proofs.Fitting.{by_parts}
 use Rattle.shelf_check.proofs.fit.fits.Goals as goal
 
 pub returns : goal.returns
-returns c = by_parts _ _ _ _ _ c.requires c.stands.ensures c.padded.ensures
+returns c = by_parts _ _ _ _ _ c.args.sections.now.whole c.stands.ensures c.padded.ensures

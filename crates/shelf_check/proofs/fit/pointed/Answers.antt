@@ -2,8 +2,8 @@
 use Rattle.shelf_check.proofs.Fitting.{pointed_nowhere, pointed_at}
 use Rattle.shelf_check.proofs.fit.pointed.Goals as goal
 
-pub returns-in-Undefined : goal.returns-in-Undefined
-returns-in-Undefined c = pointed_nowhere _ _ c.in-Undefined.is
+pub returns-in-None : goal.returns-in-None
+returns-in-None c = pointed_nowhere _ _ c.in-None.is
 
-pub returns-in-At : goal.returns-in-At
-returns-in-At c = pointed_at _ _ _ _ c.in-At.is c.records.ensures
+pub returns-in-Some : goal.returns-in-Some
+returns-in-Some c = pointed_at _ _ _ _ c.in-Some.is c.records.ensures

@@ -4,4 +4,4 @@ use borrow.Author.Rules.{rules}
 use Rattle.shelf_check.proofs.rules.file_rules.Goals as goal
 
 pub returns : goal.returns
-returns c = λ l h. own-file l _ h _ (search rules) _ _ c.zeros.ensures c.structure_rules-own.ensures
+returns c = λ l h. rw c.from-home.ensures (own-file l _ h _ (search rules) _ _ c.zeros.ensures c.structure_rules-own.ensures)

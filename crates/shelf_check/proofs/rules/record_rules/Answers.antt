@@ -3,4 +3,4 @@ use Rattle.shelf_check.proofs.OneEntry.{record_rules}
 use Rattle.shelf_check.proofs.rules.record_rules.Goals as goal
 
 pub returns : goal.returns
-returns c = record_rules _ c.requires _ _ _ _ c.size_rule.ensures c.wide-structure.ensures.0 c.wide-increase.ensures.0 c.wide.ensures.0
+returns c = record_rules _ c.requires _ _ _ _ c.size_rule.ensures c.from-structure.ensures c.from-increase.ensures c.from.ensures

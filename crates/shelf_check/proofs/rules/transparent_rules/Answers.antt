@@ -3,4 +3,4 @@ use Rattle.shelf_check.proofs.OneEntry.{transparent_rules}
 use Rattle.shelf_check.proofs.rules.transparent_rules.Goals as goal
 
 pub returns : goal.returns
-returns c = transparent_rules _ _ _ _ c.requires c.wide.ensures.0 c.wide-2.ensures.0 c.wide-3.ensures.0
+returns c = transparent_rules _ _ _ _ c.requires c.from.ensures c.from-2.ensures c.from-3.ensures

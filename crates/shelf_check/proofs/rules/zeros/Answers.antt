@@ -3,4 +3,4 @@ use Rattle.shelf_check.proofs.OneEntry.{zero-rules}
 use Rattle.shelf_check.proofs.rules.zeros.Goals as goal
 
 pub returns : goal.returns
-returns c = zero-rules _ _ _ _ _ c.wide-status.ensures.0 c.wide.ensures.0 c.wide-2.ensures.0 c.wide-3.ensures.0
+returns c = zero-rules _ _ _ _ _ c.from-status.ensures c.from.ensures c.from-2.ensures c.from-3.ensures

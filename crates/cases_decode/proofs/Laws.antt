@@ -1,2 +1,0 @@
-pub mod Shown
-pub mod Cases

@@ -1,0 +1,9 @@
+-- `fields::bytes::Bytes::text` meets its contract.
+use Rattle.fields.proofs.Laws.Bytes.{text_counts, is_text}
+use Rattle.fields.proofs.bytes.Bytes.text.Goals as goal
+
+pub invariant_of-result : goal.invariant_of-result
+invariant_of-result g c = text_counts g.row.N c.args.limit _ c.args.field.now _ c.lead-count.ensures.0 c.requires c.place.ensures
+
+pub returns : goal.returns
+returns g c = is_text g.row.N c.args.limit _ c.args.field.now _ c.lead-count.ensures.0 c.requires c.place.ensures
