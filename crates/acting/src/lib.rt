@@ -13,7 +13,7 @@ use acts_marks::{invalidate, rehabilitate};
 use acts_reading::{read_binary, read_record, seek_record};
 use acts_select::{select, status};
 use acts_writing::{increase_by, update_binary, update_record};
-use card::{Instruction, Session};
+use card::{Instruction, Refused, Session};
 use commands::answers::{Reply, refusal, silent};
 use commands_select::select::get_response;
 use forms::wanted;
@@ -55,6 +55,6 @@ pub fn act(
         Instruction::Rehabilitate => rehabilitate(image, s),
         Instruction::Sleep => silent(dropped(s), 0x9000),
         Instruction::GetResponse => get_response(s, n, room),
-        Instruction::Unknown => refusal(s, 0x6d00),
+        Instruction::Unknown => refusal(s, u16::from(Refused::Instruction)),
     }
 }

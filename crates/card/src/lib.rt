@@ -77,7 +77,8 @@ pub struct Directory {
     pub spare: u8,
 }
 
-// A file's entry: `home` is the number of its directory, `width` its record length.
+// A file's entry: `home` is the number of its directory, `width` its record length. `structure` (0 transparent, 1 linear, 3 cyclic) is the byte
+// of the image and no enum: before an image is tested any byte may stand there, and the definition tells them apart by number.
 #[derive(Clone, Copy, Debug, PartialEq, Eq)]
 pub struct Entry {
     pub identifier: u16,

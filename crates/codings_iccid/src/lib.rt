@@ -35,7 +35,7 @@ pub fn decode(s: &[u8]) -> Result<Bytes<20>, Refused>
     Ok(Bytes::text(&hs, 10))
 }
 
-// Whether a file can hold them: 1 to 20 digits.
+// Whether a file can hold them: 1 to 20 digits. Each kind has a test of this name, as in the definition.
 #[tactic(auto, unfolding(codings::specs::Iccid::writable, fields::specs::Text::within))]
 fn writable(digits: &[u8]) -> bool
     ensures { result ≡ writable digits.now }

@@ -47,7 +47,7 @@ pub fn decode(s: &[u8]) -> Result<Bytes<15>, Refused>
     Ok(Bytes::text(&hs[3..], 10))
 }
 
-// Whether a file can hold them: 1 to 15 digits.
+// Whether a file can hold them: 1 to 15 digits. Each kind has a test of this name, as in the definition.
 #[tactic(auto, unfolding(codings::specs::Imsi::writable, fields::specs::Text::within))]
 fn writable(digits: &[u8]) -> bool
     ensures { result ≡ writable digits.now }

@@ -38,7 +38,7 @@ pub fn decode(s: &[u8]) -> Result<Provider, Refused>
     })
 }
 
-// Whether a file can hold the name: at most 16 bytes, none of them FF.
+// Whether a file can hold the name: at most 16 bytes, none of them FF. Each kind has a test of this name, as in the definition.
 #[tactic(auto, unfolding(codings::specs::Spn::writable, fields::specs::Text::within))]
 fn writable(name: &[u8]) -> bool
     ensures { result ≡ writable name.now }
@@ -46,7 +46,7 @@ fn writable(name: &[u8]) -> bool
     name.len() <= 16 && lead(name, 255) == name.len()
 }
 
-// The file of these bits and this name, in the lent room.
+// The file of these bits and this name, in the lent room. No `Provider` is taken: it could not hold a name of 17 bytes, which is refused here.
 #[tactic(auto, unfolding(codings::specs::Answers::judge, codings::specs::Spn::encode, codings::specs::Spn::writable, fields::specs::Text::placed))]
 pub fn encode(bit1: bool, bit2: bool, name: &[u8], room: &mut [u8]) -> Result<(), Refused>
     ensures { told result room.new ≡ encode (provider bit1 bit2 name.now) room.old }

@@ -1,5 +1,5 @@
 // VERIFY, CHANGE, DISABLE, ENABLE and UNBLOCK, each on the 20 bytes of its code's entry. `Sized` stands in the contracts and in no type: the
-// entry is a part of the image that is lent, and the given bytes a part of the command, of 8 or 16 as the instruction says.
+// entry and the given bytes are taken as slices, as before, and arrays would ask more of who calls.
 ghost use Rattle.std.specs.Prelude.{◌≡◌, ◌-◌, ◌%◌};
 ghost use Rattle.card.specs.Layout.{disabled};
 ghost use Rattle.card.specs.Codes.{verify, change, disable, enable, unblock};

@@ -57,7 +57,7 @@ fn absolute(e: Entry, n: usize, p: Option<usize>) -> Option<usize>
     (n <= records(e)).then_some(n)
 }
 
-// The record that a mode chooses.
+// The record that a mode chooses. The mode is P2 as it was sent and as the definition takes it: a command's form lets only 02 to 04 come here.
 #[tactic(auto, unfolding(card::specs::Records::chosen))]
 fn chosen(e: Entry, n: usize, mode: usize, p: Option<usize>) -> Option<usize>
     ensures { unwrap_or result 0 ≡ chosen e n mode p }

@@ -42,7 +42,7 @@ fn search(b: &[u8], m: usize, pattern: &[u8], up: bool, from: usize, turns: usiz
     None
 }
 
-// The record that a mode finds among n.
+// The record that a mode finds among n. The mode is the low half of P2, as the definition takes it.
 #[tactic(auto, unfolding(card::specs::Seek::sought))]
 fn sought(
     b: &[u8],

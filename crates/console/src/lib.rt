@@ -59,7 +59,7 @@ fn play_on(image: &mut [u8], told: bool) {
     }
 }
 
-// Plays all of standard input. Of an image that is cut nothing is told.
+// Plays all of standard input. A flag and no closure over the image: what it chooses is one line more, for two programs. Of an image that is cut nothing is told.
 pub fn run(told: bool) {
     let mut space = [0u8; 65536];
     let Some(image) = input::read_counted(&mut space) else {

@@ -13,6 +13,7 @@ pub const CHV1: usize = 2;
 pub const CHV2: usize = 22;
 
 // The two bytes at a place, high byte first. Only this player's crates call it.
+#[tactic(auto, unfolding(card::specs::Bytes::word))]
 pub fn word(l: &[u8], at: usize) -> u16
     requires { at + 2 ≤ length l.now }
     ensures { result ≡ word l.now at }
@@ -21,6 +22,7 @@ pub fn word(l: &[u8], at: usize) -> u16
 }
 
 // The code's entry at a place, but for the two codes themselves. Only this player's crates call it.
+#[tactic(auto, unfolding(card::specs::Layout::code_entry))]
 pub fn code(l: &[u8], at: usize) -> Code
     requires { at + 4 ≤ length l.now }
     ensures { result ≡ code_entry l.now at }
@@ -34,6 +36,7 @@ pub fn code(l: &[u8], at: usize) -> Code
 }
 
 // The directory's entry at a place. Only this player's crates call it.
+#[tactic(auto, unfolding(card::specs::Layout::directory_entry))]
 pub fn directory(l: &[u8], at: usize) -> Directory
     requires { at + 8 ≤ length l.now }
     ensures { result ≡ directory_entry l.now at }
@@ -49,6 +52,7 @@ pub fn directory(l: &[u8], at: usize) -> Directory
 }
 
 // The file's entry at a place. Only this player's crates call it.
+#[tactic(auto, unfolding(card::specs::Layout::file_entry))]
 pub fn file(l: &[u8], at: usize) -> Entry
     requires { at + 14 ≤ length l.now }
     ensures { result ≡ file_entry l.now at }

@@ -56,7 +56,8 @@ fn step(
 // Plays n commands that stand one after the other, each after its count in two bytes, high byte first, whatever the bytes and the session
 // are. The image and the session are tested once. Of each command the answers tell the host's answer (one byte), the count of the response
 // (two bytes, high byte first) and the response. It ends early where the next command is not whole, or where fewer than 261 bytes are left
-// for its answer.
+// for its answer. Commands and answers are slices with a place beside them: they are lent by the host, and the promise is of what stands before and
+// after the place.
 pub fn run(image: &mut [u8], session: Session, commands: &[u8], n: usize, answers: &mut [u8]) -> Ran
     ensures { Runs image.old session commands.now n answers.old
         result image.new answers.new }

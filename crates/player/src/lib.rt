@@ -21,7 +21,7 @@ pub struct Played {
     pub session: Session,
 }
 
-// The same but for the session, which is stored where it was lent.
+// The same, answer and count likewise, but for the session, which is stored where it was lent.
 #[derive(Clone, Copy)]
 pub struct Lent {
     pub answer: Answer,

@@ -1,4 +1,5 @@
-// One command on an image that was tested, with room for any response.
+// One command on an image that was tested, with room for any response. That there is room, and that the command has its five bytes, stands in
+// each contract and in no type: both slices are the host's, and the definition reads them as they are.
 ghost use Rattle.std.specs.Prelude.{◌≡◌, ◌+◌, ◌≤◌, length, drop};
 ghost use Rattle.acts.specs.Ready.{Ready};
 ghost use Rattle.card.specs.Bytes.{byte};

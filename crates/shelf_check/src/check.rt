@@ -36,8 +36,9 @@ pub fn directories_sound(s: &Sections) -> bool
     sound
 }
 
-// What a file's identifier starts with, by the number of its directory, and 256, which no byte is, where there is no directory. `Homes`
-// ties the table to the image: a type for it would have to hold the image too, as `Sections` does already.
+// What a file's identifier starts with, by the number of its directory, and 256 where there is no directory: no byte is
+// that, so that one comparison tells for each file what an option would take two for. `Homes` ties the table to the image: a type for it would
+// have to hold the image too, as `Sections` does already.
 pub fn homes(s: &Sections) -> [u16; 32]
     ensures { Homes s.now.image.now (index s.now.image.now).directories result }
 {

@@ -37,8 +37,8 @@ pub fn is_image(image: &[u8]) -> bool
     }
 }
 
-// Whether anything is in the way before a command is looked at, and then the host's answer: the bytes are no image, or the session does not
-// fit it. The session is tested before the loops over the entries: they are slower where it is kept through them.
+// Whether anything is in the way before a command is looked at, and then the host's answer, which the caller hands on: the bytes are no image,
+// or the session does not fit it. The session is tested before the loops over the entries: they are slower where it is kept through them.
 pub fn examine(image: &[u8], session: Session) -> Result<(), Answer>
     ensures { result ≡ examined image.now session }
 {

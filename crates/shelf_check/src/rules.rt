@@ -10,22 +10,22 @@ use card::{Code, Directory, Entry};
 use entries::records;
 
 // A directory that starts 7F stands in one that starts 3F, and 5F in 7F.
+#[tactic(auto, unfolding(card::specs::Shelf::below))]
 fn below(parent: u16, child: u16) -> bool
     ensures { result ≡ below parent child }
 {
     ((parent == 0x3f) & (child == 0x7f)) | ((parent == 0x7f) & (child == 0x5f))
 }
 
-// The first byte of a file that stands in a directory. No `match`: its last arm would not tell the proof which numbers came before it.
+// The first byte of a file that stands in a directory.
+#[tactic(auto, unfolding(card::specs::Shelf::within))]
 pub fn within(high: u16) -> u16
     ensures { result ≡ within high }
 {
-    if high == 0x3f {
-        0x2f
-    } else if high == 0x7f {
-        0x6f
-    } else {
-        0x4f
+    match high {
+        0x3f => 0x2f,
+        0x7f => 0x6f,
+        _ => 0x4f,
     }
 }
 
@@ -74,6 +74,7 @@ fn key(identifier: u16, home: u8) -> usize
 }
 
 // What tells directory d from the others.
+#[tactic(auto, unfolding(crate::specs::Apart::directory_key))]
 pub fn directory_key(d: usize, e: Directory) -> usize
     ensures { result ≡ directory_key d e }
 {
@@ -147,6 +148,7 @@ pub fn file_rules(homes: &[u16; 32], e: Entry) -> bool
 }
 
 // What tells a file from the others.
+#[tactic(auto, unfolding(crate::specs::Apart::file_key))]
 pub fn file_key(e: Entry) -> usize
     ensures { result ≡ file_key e }
 {

@@ -8,6 +8,7 @@ use card::{Directory, Entry, Index};
 use shelf::read;
 
 // Some bytes and their index. The counts are an image's, and every section but the last is all there: no entry's place is tested again.
+// A type beside `shelf::head`'s: that says of a tested image what is only found here.
 #[derive(Clone, Copy)]
 pub struct Sections<'a> {
     pub image: &'a [u8],

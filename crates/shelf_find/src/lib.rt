@@ -9,6 +9,7 @@ use card::Directory;
 use shelf::head::ImageHead;
 
 // Whether an identifier selects directory d.
+#[tactic(auto, unfolding(card::specs::Select::leads))]
 fn leads(here: usize, up: u8, id: u16, d: usize, e: Directory) -> bool
     ensures { result ≡ leads here up id d e }
 {
@@ -19,6 +20,7 @@ fn leads(here: usize, up: u8, id: u16, d: usize, e: Directory) -> bool
 }
 
 // Whether an identifier selects file f.
+#[tactic(auto, unfolding(card::specs::Select::named))]
 fn named(head: &ImageHead, here: usize, id: u16, f: usize) -> bool
     requires { f < head.now.shelf.index.files }
     ensures { result ≡ named here id (file head.now.shelf.bytes.now f) }

@@ -6,7 +6,6 @@ use mathlib.Core.Bool.{Bool, true, false}
 use native.Mathlib.Omega.{arith}
 use mir.Val.{bool_byte}
 use lib.ListN.{length, replicate}
-use borrow.Author.Tests.{eq-eqb, ne_eqb}
 use Rattle.std.specs.Int.{w16, to_be_bytes}
 use Rattle.card.specs.Bytes.{byte, bit, how_many}
 use Rattle.card.specs.Layout.{index, code_at, code_entry, code, directory, file, disabled}
@@ -16,14 +15,6 @@ use Rattle.shelf.specs.Reads.{Head, Counters}
 use Rattle.card.specs.declared.Index.{Index}
 use Rattle.card.specs.declared.Code.{Code}
 use Rattle.card.specs.declared.Directory.{Directory}
-
-pub type_master : (d : ℕ) → d ≡ 0 → 1 ≡ directory_type d
-unfolding directory_type
-type_master d e = simp (directory_type, eq-eqb _ _ e)
-
-pub type_other : (d : ℕ) → (d ≡ 0 → ⊥) → 2 ≡ directory_type d
-unfolding directory_type
-type_other d e = simp (directory_type, ne_eqb _ _ e)
 
 -- a test as a number
 pub record Tested (t : Bool) (b : ℕ) : Type 0 where

@@ -76,6 +76,7 @@ fn characteristics(k: Code, e: Directory) -> u8
     b8(k.flags % 2 == 1) + e.characteristics
 }
 
+#[tactic(auto, unfolding(card::specs::Select::child))]
 fn child(d: usize, c: usize, e: Directory) -> bool
     ensures { result ≡ child d c e }
 {
@@ -83,6 +84,7 @@ fn child(d: usize, c: usize, e: Directory) -> bool
     !root & (usize::from(e.parent) == d)
 }
 
+#[tactic(auto, unfolding(card::specs::Select::member))]
 fn member(head: &ImageHead, d: usize, f: usize) -> bool
     requires { f < head.now.shelf.index.files }
     ensures { result ≡ member d (file head.now.shelf.bytes.now f) }
@@ -112,6 +114,7 @@ fn members(head: &ImageHead, d: usize) -> u8
     found
 }
 
+#[tactic(auto, unfolding(card::specs::Select::directory_type))]
 fn directory_type(d: usize) -> u8
     ensures { result ≡ directory_type d }
 {

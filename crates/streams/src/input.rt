@@ -26,7 +26,8 @@ pub fn read_count() -> Option<usize>
 }
 
 // Reads a count and so many bytes, and lends the part of the space that they fill; nothing where the input ends before them. Only this
-// project's programs call it. The space is a slice, whose length the programs' buffers are tested for by `short_file_buffer` (`coder`).
+// project's programs call it. The space is a slice and no array: else the edit `short_file_buffer` (`coder`), which lends a shorter
+// one, would be refused by a type and not by what is asked here.
 pub fn read_counted(space: &mut [u8]) -> Option<&mut [u8]>
     requires { 65536 ≤ length space.old }
     ensures { IfSome result (λ part. length part.now < 65536) }

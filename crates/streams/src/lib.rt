@@ -26,7 +26,7 @@ pub fn print<const N: usize, D: Display + Drop>(text: D)
     requires { N < 2 ^ 32 }
 {
     let mut line = Line::<N>::new();
-    // a line takes all that fits, and never gives an error
+    // a line takes all that fits: an error could only be the text's own, and what was put in is written
     let _ = line.print(text);
     write(line.as_slice());
 }

@@ -49,7 +49,7 @@ impl<const N: usize> Line<N> {
     pub fn push_all(&mut self, bytes: &[u8])
         ensures { self.new ≡ take N (self.old ++ bytes.now) }
     {
-        // a line is never longer than its room
+        // read for the proof alone: a line is never longer than its room
         let _ = &self.len;
         for b in bytes {
             self.push(*b);
@@ -60,7 +60,7 @@ impl<const N: usize> Line<N> {
     pub fn print<D: fmt::Display + Drop>(&mut self, text: D) -> fmt::Result
         ensures { OnOk result (IfSome (D.output text) (λ printed. self.new ≡ take N (self.old ++ printed))) }
     {
-        // a line is never longer than its room
+        // read for the proof alone: a line is never longer than its room
         let _ = &self.len;
         self.write(text)
     }

@@ -15,29 +15,9 @@ use Rattle.acting.proofs.Choices.{chosen, selects, as_many, alone}
 use Rattle.acting.proofs.Taking.{seeks, verifies, changes, disables, enables, unblocks, increases, asks, waiting}
 use Rattle.acting.proofs.act.Goals as goal
 
-pub select-requires : goal.select-requires
-unfolding act
-select-requires c = c.requires.ready
-
 pub status-requires : goal.status-requires
 unfolding act
 status-requires c = record { ready = c.requires.ready; n_bound = (asks c.requires.right c.in-Status.is, omega arith) }
-
-pub read_binary-requires : goal.read_binary-requires
-unfolding act
-read_binary-requires c = record { ready = c.requires.ready; n_in_bounds = omega (arith, c.wanted.ensures.1 (omega arith)) }
-
-pub update_binary-requires : goal.update_binary-requires
-unfolding act
-update_binary-requires c = c.requires.ready
-
-pub read_record-requires : goal.read_record-requires
-unfolding act
-read_record-requires c = record { ready = c.requires.ready; n_in_bounds = omega arith }
-
-pub update_record-requires : goal.update_record-requires
-unfolding act
-update_record-requires c = c.requires.ready
 
 pub seek_record-requires : goal.seek_record-requires
 unfolding act
@@ -74,14 +54,6 @@ enable-requires c = record { ready = c.requires.ready; given_len = enables c.req
 pub unblock-requires : goal.unblock-requires
 unfolding act
 unblock-requires c = record { ready = c.requires.ready; c_bound = unblocks c.requires.right c.in-Unblock.is }
-
-pub invalidate-requires : goal.invalidate-requires
-unfolding act
-invalidate-requires c = c.requires.ready
-
-pub rehabilitate-requires : goal.rehabilitate-requires
-unfolding act
-rehabilitate-requires c = c.requires.ready
 
 pub get_response-requires : goal.get_response-requires
 unfolding act
@@ -193,4 +165,4 @@ pub returns-in-Unknown : goal.returns-in-Unknown
 unfolding act
 returns-in-Unknown c = let a = c.args in
     chosen a.image.now a.s a.i a.p a.q a.n a.body.now _ a.image.now a.room.now a.room.now Unknown c.in-Unknown.is
-    (alone a.image.now a.s _ (dropped a.s) 0x6d00 c.requires.ready c.refusal.ensures a.room.now)
+    (alone a.image.now a.s _ (dropped a.s) 0x6d00 c.requires.ready (rw c.from.ensures at c.refusal.ensures) a.room.now)

@@ -12,6 +12,12 @@ use Rattle.fields.proofs.Laws.Text.{lead_le, text_length, counts, places, taken}
 abbrev pub Counted : ℕ → ℕ → List ℕ → Type 0
 Counted n count b = (count ≤ n) × (b ≡ padded 0 n (take count b))
 
+-- Where the bytes that count are equal, all bytes are, and the counts.
+pub one : (n : ℕ) (b b' : List ℕ) (c c' : ℕ) → length b ≡ n → length b' ≡ n → Counted n c b → Counted n c' b' → take c b ≡ take c' b'
+    → (b ≡ b') × (c ≡ c')
+one n b b' c c' l l' h h' e =
+    (h.1 ∙ ap (λ (t : List ℕ). padded 0 n t) e ∙ sym h'.1, sym (length-take-le c b (omega (arith, h.0, l))) ∙ ap (λ (t : List ℕ). length t) e ∙ length-take-le c' b' (omega (arith, h'.0, l')))
+
 pub none : (n : ℕ) → Counted n 0 (replicate n 0)
 unfolding padded
 none n = (omega arith, ap (λ (k : ℕ). replicate k 0) (omega arith))

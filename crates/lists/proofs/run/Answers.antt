@@ -37,18 +37,8 @@ returns-then-not-whole-until c = let f = c.loop-played.invariant.0 in
 pub word-requires : goal.word-requires
 word-requires c = omega (arith, (going (goal.at.word-requires c).Else-not-whole-until).0)
 
-pub overflow_add-at : goal.overflow_add-at
-overflow_add-at c = omega (arith, (going (goal.at.overflow_add-at c).Else-not-whole-until).0)
-
 pub slice_bounds-step-end : goal.slice_bounds-step-end
 slice_bounds-step-end c = omega (arith, (going (goal.at.slice_bounds-step-end c).Else-not-whole-until).0)
-
-pub slice_bounds-step-end-in-loop-played : goal.slice_bounds-step-end-in-loop-played
-slice_bounds-step-end-in-loop-played c = omega (arith, (going (goal.at.slice_bounds-step-end-in-loop-played c).Else-not-whole-until).1)
-
-pub step-done-requires : goal.step-done-requires
-step-done-requires c = let loop = c.loop-played in
-    record { ready = loop.invariant.0.ready; answer_len = lent loop.answers loop.ran.written (going (goal.at.step-done-requires c).Else-not-whole-until).1 }
 
 pub loop-played-preserved : goal.loop-played-preserved
 loop-played-preserved c = let loop = c.loop-played in

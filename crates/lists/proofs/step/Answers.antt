@@ -6,15 +6,6 @@ use Rattle.runs.proofs.Responses.{within}
 use Rattle.lists.proofs.Laying.{told}
 use Rattle.lists.proofs.step.Goals as goal
 
-pub overflow_cast-answer : goal.overflow_cast-answer
-overflow_cast-answer c = omega (arith, within c.play_on-played.ensures.ends)
-
-pub bounds-answer-1 : goal.bounds-answer-1
-bounds-answer-1 c = simp length-set (search rules)
-
-pub bounds-answer-2 : goal.bounds-answer-2
-bounds-answer-2 c = simp length-set (search rules)
-
 pub returns : goal.returns
 returns c = let a = c.args in
     let call = c.play_on-played in

@@ -13,9 +13,6 @@ pub returns-then-command-lt5 : goal.returns-then-command-lt5
 returns-then-command-lt5 c = let a = c.args in
     ends (too_short a.image.now a.session a.command.now (length a.room.now) c.requires c.if-room-lt258.false c.if-command-lt5.true) (declines WrongLength a.image.now a.room.now a.session c.decline-then-command-lt5.ensures)
 
-pub perform-requires : goal.perform-requires
-perform-requires c = record { ready = c.requires; in_bounds = (c.if-room-lt258.false, c.if-command-lt5.false) }
-
 pub returns : goal.returns
 returns c = let a = c.args in
     ends (onward a.image.now a.session a.command.now (length a.room.now) c.requires c.if-room-lt258.false c.if-command-lt5.false) c.perform.ensures

@@ -5,9 +5,6 @@ use lib.ListN.{length}
 use Rattle.runs.proofs.Again.{again}
 use Rattle.runs.proofs.play_on.Goals as goal
 
-pub play_ready-requires : goal.play_ready-requires
-play_ready-requires c = c.requires c.if-known.true
-
 pub returns-then-known : goal.returns-then-known
 returns-then-known c = let a = c.args in
     let e = c.play_ready.ensures in

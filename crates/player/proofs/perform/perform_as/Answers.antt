@@ -30,21 +30,6 @@ returns-then-command-sent c = let a = c.args in
     ends (wrong_length a.i a.image.now a.s a.command.now c.if-command.false (rw c.in_default.is at c.formed.ensures) _ c.sent.ensures c.if-command-sent.true)
     (declines WrongLength a.image.now a.room.now a.s c.decline.ensures)
 
-pub carry_out-requires : goal.carry_out-requires
-carry_out-requires c =
-    record {
-      ready = c.requires.ready;
-      in_bounds = c.requires.in_bounds;
-      right =
-          record {
-            p1 = omega (arith, c.type_inv.command 2);
-            p2 = omega (arith, c.type_inv.command 3);
-            p3 = omega (arith, c.type_inv.command 4);
-            form = sym (rw c.in_default.is at c.formed.ensures);
-            sends = length-drop 5 c.args.command.now ∙ c.if-command-sent.false ∙ c.sent.ensures;
-          };
-    }
-
 pub returns : goal.returns
 returns c = let a = c.args in
     ends (performed a.i a.image.now a.s a.command.now c.if-command.false (rw c.in_default.is at c.formed.ensures) _ c.sent.ensures c.if-command-sent.false) c.carry_out.ensures
