@@ -77,8 +77,11 @@ fn play_image(once: bool, laps: usize, space: &mut [u8]) -> Option<()>
 // Plays all of standard input.
 fn play() -> Option<()> {
     let mut mode = [0u8; 1];
-    input::fill(&mut mode)?;
-    let laps = input::read_count()?;
+    // both are read before either is looked at: as much is taken of an input that ends at once and then goes on, as a terminal's
+    let came = input::fill(&mut mode);
+    let laps = input::read_count();
+    came?;
+    let laps = laps?;
     let mut space = [0u8; 65536];
     play_image(mode[0] != 0, laps, &mut space)
 }

@@ -4,9 +4,9 @@
 pub mod input;
 pub mod text;
 
-ghost use Rattle.std.specs.Prelude.{◌<◌, ◌^◌};
+ghost use Rattle.std.specs.Prelude.{◌≡◌, ◌<◌, ◌^◌, take, OnOk, IfSome};
 
-use std::fmt::Display;
+use std::fmt::{self, Display};
 use text::Line;
 
 // Standard output.
@@ -25,8 +25,18 @@ pub fn short_input() {
 pub fn print<const N: usize, D: Display + Drop>(text: D)
     requires { N < 2 ^ 32 }
 {
-    let mut line = Line::<N>::new();
     // a line takes all that fits: an error could only be the text's own, and what was put in is written
-    let _ = line.print(text);
+    let _ = print_in(&mut Line::<N>::new(), text);
+}
+
+// The same by a line that is lent, whatever stood in it: all of a new line's room is cleared, which takes longer than a short text. Only
+// this project's programs call it.
+pub fn print_in<const N: usize, D: Display + Drop>(line: &mut Line<N>, text: D) -> fmt::Result
+    requires { N < 2 ^ 32 }
+    ensures { OnOk result (IfSome (D.output text) (λ printed. line.new ≡ take N printed)) }
+{
+    line.clear();
+    let printed = line.print(text);
     write(line.as_slice());
+    printed
 }

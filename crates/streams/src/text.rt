@@ -1,7 +1,7 @@
 // A line of output, put together before it is written, so that it is one write.
 ghost use Rattle.std.specs.Prelude.{◌≡◌, ◌≤◌, List, [], ◌∷◌, ◌++◌, length, take, Some, IsOk, OnOk, IfSome};
 ghost use Rattle.std.specs.Fmt.{decimal};
-ghost use Rattle.streams.specs.Texts.{hexed};
+ghost use Rattle.streams.specs.Texts.{hexed, two_digits};
 
 use std::fmt::{self, Write};
 use std::marker::Model;
@@ -32,6 +32,13 @@ impl<const N: usize> Line<N> {
             bytes: [0; N],
             len: 0,
         }
+    }
+
+    // No text: what stood there is left out from now on, and the room stays.
+    pub fn clear(&mut self)
+        ensures { self.new ≡ [] }
+    {
+        self.len = 0;
     }
 
     // One byte more.
@@ -100,6 +107,33 @@ impl fmt::Display for Head {
     }
 }
 
+// Each byte as two digits: those of a byte stand at twice its number.
+const PAIRS: &str = "\
+    000102030405060708090A0B0C0D0E0F\
+    101112131415161718191A1B1C1D1E1F\
+    202122232425262728292A2B2C2D2E2F\
+    303132333435363738393A3B3C3D3E3F\
+    404142434445464748494A4B4C4D4E4F\
+    505152535455565758595A5B5C5D5E5F\
+    606162636465666768696A6B6C6D6E6F\
+    707172737475767778797A7B7C7D7E7F\
+    808182838485868788898A8B8C8D8E8F\
+    909192939495969798999A9B9C9D9E9F\
+    A0A1A2A3A4A5A6A7A8A9AAABACADAEAF\
+    B0B1B2B3B4B5B6B7B8B9BABBBCBDBEBF\
+    C0C1C2C3C4C5C6C7C8C9CACBCCCDCECF\
+    D0D1D2D3D4D5D6D7D8D9DADBDCDDDEDF\
+    E0E1E2E3E4E5E6E7E8E9EAEBECEDEEEF\
+    F0F1F2F3F4F5F6F7F8F9FAFBFCFDFEFF";
+
+// A byte in upper-case hexadecimal, by the table: a line has one for each byte of a response, and `{:02X}` takes several times as long.
+fn pair(byte: u8) -> &'static str
+    ensures { result.now ≡ two_digits byte }
+{
+    let at = 2 * usize::from(byte);
+    &PAIRS[at..at + 2]
+}
+
 // Bytes that are printed in upper-case hexadecimal, `-` where there are none.
 #[derive(Clone, Copy)]
 pub struct Hex<'a>(pub &'a [u8]);
@@ -113,7 +147,7 @@ impl fmt::Display for Hex<'_> {
             return f.write_str("-");
         }
         for byte in bytes {
-            write!(f, "{byte:02X}")?;
+            f.write_str(pair(*byte))?;
         }
         Ok(())
     }
