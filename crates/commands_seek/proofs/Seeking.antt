@@ -1,30 +1,22 @@
 -- Laws of SEEK: comparing, and what a search in order finds.
 use Rattle.std.specs.Prelude.{Option, Some, None, unwrap_or}
-use Prim.Native.Nat.{ℕ, suc, ◌+◌, ◌-◌, ◌<◌, ◌≤◌}
-use mathlib.Core.Path.{◌≡◌, refl, sym, ap, ap₂, ◌∙◌}
-use mathlib.Core.List.{List, [], ◌∷◌}
+use Prim.Native.Nat.{ℕ, suc, ◌+◌, ◌-◌, ◌*◌, ◌<◌, ◌≤◌}
+use mathlib.Core.Path.{◌≡◌, refl, sym, ap, ◌∙◌}
+use mathlib.Core.List.{List, []}
 use mathlib.Core.Bool.{Bool, true, false, ◌&&◌}
 use native.Mathlib.Omega.{arith}
+use native.Mathlib.Numerals.{add-one}
+use native.Mathlib.Nat.{suc-mul}
 use lib.Dec.{eqb}
 use borrow.Author.Tests.{eq-eqb, ne_eqb}
 use Rattle.std.proofs.lemmas.Bool.Decides.{nat_tests}
-use lib.ListN.{length, take, drop, length-drop}
-use lib.Pointwise.{pointwise}
-use lib.Seq.{take-length}
+use lib.ListN.{length, get_or, drop, drop_of_length-le}
+use lib.Seq.{drop-cons, drop-length, get_or-take, get_or-drop}
 use Rattle.card.specs.Bytes.{first_from, same, part}
 use Rattle.card.specs.Seek.{forward, after, before, sought}
 use Rattle.commands_seek.specs.Along.{found}
+use Rattle.card.proofs.Parts.{length_part}
 use Rattle.card.proofs.Tests.{indeed, otherwise}
-
--- the library's comparison, of the pattern with the record
-pub compared : (x y : List ℕ) → pointwise eqb x y ≡ same y x
-unfolding same
-compared [] [] = refl
-compared [] (b ∷ y) = refl
-compared (a ∷ x) [] = refl
-compared (a ∷ x) (b ∷ y) =
-    let e : eqb a b ≡ eqb b a = grind (arith, nat_tests) in
-    ap₂ (λ (p q : Bool). p && q) e (compared x y)
 
 -- where a search after the pointer begins
 after_is : (p : Option ℕ) → after p ≡ unwrap_or p 0 + 1
@@ -49,12 +41,40 @@ module _ (b pattern : List ℕ) (m n mode : ℕ) (p : Option ℕ) where
   unfolding sought
   from_before k z o t e = simp (sought, ne_eqb _ _ z, ne_eqb _ _ o, ne_eqb _ _ t, e)
 
--- the bytes from a place on start with the pattern
-pub started : (b pattern : List ℕ) (at : ℕ) (t : Bool) → t ≡ pointwise eqb pattern (take (length pattern) (take (length b - at) (drop at b)))
-    → t ≡ same (part b at (length pattern)) pattern
-started b pattern at t e =
-    let all : take (length b - at) (drop at b) ≡ drop at b = rw (← length-drop at b) (take-length (drop at b)) in
-    rw all at e ∙ compared pattern (part b at (length pattern))
+-- n bytes from a place on, and a pattern of n bytes: the rest of their comparison, from byte j on
+module _ (b pattern : List ℕ) (at : ℕ) (h : at + length pattern ≤ length b) where
+  abbrev pub rest : ℕ → Bool
+  rest j = same (drop j (part b at (length pattern))) (drop j pattern)
+
+  apart : (j : ℕ) → j < length pattern
+      → rest j ≡ (eqb (get_or b (at + j) 0) (get_or pattern j 0) && rest (j + 1))
+  unfolding same
+  apart j l =
+      let m : j < length (part b at (length pattern)) = omega (arith, length_part b at (length pattern) h) in
+      let q : get_or (part b at (length pattern)) j 0 ≡ get_or b (at + j) 0 = get_or-take (length pattern) (drop at b) j 0 l ∙ get_or-drop at b j 0 in
+      simp (drop-cons (part b at (length pattern)) j 0 m, drop-cons pattern j 0 l, q, add-one)
+
+  pub same_on : (j : ℕ) → j < length pattern → get_or b (at + j) 0 ≡ get_or pattern j 0 → rest j ≡ rest (j + 1)
+  same_on j l e = apart j l ∙ simp (eq-eqb _ _ e)
+
+  pub same_miss : (j : ℕ) → j < length pattern → (get_or b (at + j) 0 ≡ get_or pattern j 0 → ⊥) → rest j ≡ false
+  same_miss j l e = apart j l ∙ simp (ne_eqb _ _ e)
+
+  pub same_end : (j : ℕ) → j ≡ length pattern → rest j ≡ true
+  unfolding same
+  same_end j e =
+      let l : length (part b at (length pattern)) ≤ length pattern = omega (arith, length_part b at (length pattern) h) in
+      let d : drop (length pattern) (part b at (length pattern)) ≡ [] = drop_of_length-le (part b at (length pattern)) l in
+      simp (e, drop-length, d)
+
+-- a record of m bytes has room for the pattern
+pub fitting : (k m n l : ℕ) → 0 < k → k * m ≤ l → n ≤ m → (k - 1) * m + n ≤ l
+fitting k m n l o w h =
+    let e : k ≡ suc (k - 1) = omega arith in
+    let q : k * m ≡ (k - 1) * m + m = rw (ap (λ (x : ℕ). x * m) e) (suc-mul (k - 1) m) in
+    omega arith
+
+pub ruleset comparing = (fitting, arith)
 
 module _ (p : ℕ → Bool) (n i : ℕ) where
   -- a number that fails is passed, one that passes is found, and past the last is the end

@@ -18,18 +18,25 @@ use entries::records;
 use sessions::{points, waits};
 
 // Whether record k of m bytes starts with the pattern.
+#[tactic(auto, using(crate::proofs::Seeking::comparing))]
 fn starts(b: &[u8], m: usize, pattern: &[u8], k: usize) -> bool
-    requires { (0 < k) × (k * m ≤ length b.now) }
+    requires within { (0 < k) × (k * m ≤ length b.now) }
+    requires narrow { length pattern.now ≤ m }
     ensures { result ≡ matches b.now m pattern.now k }
 {
     let at = (k - 1) * m;
-    b[at..].starts_with(pattern)
+    for (j, byte) in pattern.iter().enumerate() {
+        if b[at + j] != *byte {
+            return false;
+        }
+    }
+    true
 }
 
 // The first record that starts with the pattern, of so many from one on, up or down.
 #[tactic(auto, using(crate::proofs::Seeking::searching))]
 fn search(b: &[u8], m: usize, pattern: &[u8], up: bool, from: usize, turns: usize) -> Option<usize>
-    requires { Ranges b.now m up from turns }
+    requires { Ranges b.now m (length pattern.now) up from turns }
     ensures found { unwrap_or result 0 ≡ found b.now m pattern.now up from turns }
     ensures within { IfSome result (λ k. (0 < k) × (k < 256)) }
 {
@@ -53,6 +60,7 @@ fn sought(
     p: Option<usize>,
 ) -> Option<usize>
     requires whole { (n * m ≤ length b.now) × (n < 256) }
+    requires narrow { length pattern.now ≤ m }
     requires pointed { (k : ℕ) → p ≡ Some k → k ≤ n }
     ensures found { unwrap_or result 0 ≡ sought b.now m n pattern.now mode p }
     ensures within { IfSome result (λ k. (0 < k) × (k < 256)) }
