@@ -1,6 +1,8 @@
 -- Each public promise admits one outcome: of any two that it admits, answer, value and every byte are equal.
-use Rattle.std.specs.Prelude.{ℕ, ◌≡◌, List, [], false, Result, Option, None}
-use Rattle.codings.specs.Answers.{Outcome, told, decoded}
+use Rattle.std.specs.Prelude.{ℕ, ◌≡◌, List, [], Bool, false, take, Result, Ok, Err, Option, None}
+use Rattle.fields.specs.Bytes.{Counted}
+use Rattle.fields.specs.declared.bytes.Bytes.TheInside.{Inside}
+use Rattle.codings.specs.Answers.{Outcome, outcome, done, code, told, decoded}
 use Rattle.codings.specs.Network as network
 use Rattle.codings.specs.Services as services
 use Rattle.codings.specs.Admin as admin
@@ -21,6 +23,32 @@ One A Promise = (r s : A) → Promise r → Promise s → r ≡ s
 -- a decoder's answer
 abbrev pub OneRead : {A : Type 0} → A → Outcome A → Type 0
 OneRead {A = A} left o = One (Result A Refused) (λ r. decoded left r ≡ o)
+
+-- A decoder's answer as it lies in memory: something holds of its value, and a clause sees a part of that.
+abbrev pub Tells : {A B : Type 0} → (A → Type 0) → (A → B) → B → Outcome B → Result A Refused → Type 0
+Tells Holds seen left o (Ok a) = Holds a × (done (seen a) ≡ o)
+Tells Holds seen left o (Err e) = outcome (code e) left ≡ o
+
+-- n bytes, zeros after those that count, of which a clause sees those that count
+abbrev pub Whole : (n : ℕ) → Inside n → Type 0
+Whole n b = Counted n b.count b.bytes
+
+abbrev pub counting : (n : ℕ) → Inside n → List ℕ
+counting n b = take b.count b.bytes
+
+abbrev pub OneInMemory : ℕ → Outcome (List ℕ) → Type 0
+OneInMemory n o = One (Result (Inside n) Refused) (Tells (Whole n) (counting n) [] o)
+
+-- a provider with all bytes of its name
+pub record Named : Type 0 where
+  pub bit1 : Bool
+  pub bit2 : Bool
+  pub name : Inside 16
+
+abbrev pub OneNamed : Outcome Provider → Type 0
+OneNamed o =
+    One (Result Named Refused)
+    (Tells (λ p. Whole 16 p.name) (λ p. provider p.bit1 p.bit2 (counting 16 p.name)) (provider false false []) o)
 
 -- an encoder's answer, and the lent bytes afterwards
 pub record Written : Type 0 where
@@ -43,3 +71,7 @@ pub record OneOutcome : Type 0 where
   pub spn_encode : (p : Provider) (room : List ℕ) → OneWritten (spn.encode p room)
   pub admin_decode : (l : List ℕ) → OneRead (setting 0 None) (admin.decode l)
   pub admin_encode : (v : Setting) (l : List ℕ) → OneWritten (admin.encode v l)
+  -- of the decoders that give bytes in fixed memory, every byte, those that do not count too, and the counts
+  pub iccid_bytes : (l : List ℕ) → OneInMemory 20 (iccid.decode l)
+  pub imsi_bytes : (l : List ℕ) → OneInMemory 15 (imsi.decode l)
+  pub spn_bytes : (l : List ℕ) → OneNamed (spn.decode l)

@@ -63,7 +63,7 @@ fn changed(b: u8, i: usize, v: Service) -> u8
 }
 
 // What the table says of service n.
-#[tactic(auto, unfolding(codings::specs::Answers::judge, codings::specs::Services::read))]
+#[tactic(auto, using(crate::proofs::Laws::past_end), unfolding(codings::specs::Answers::judge, codings::specs::Services::read))]
 pub fn read(s: &[u8], n: usize) -> Result<Service, Refused>
     ensures { decoded NotAllocated result ≡ read s.now n }
 {
@@ -74,7 +74,9 @@ pub fn read(s: &[u8], n: usize) -> Result<Service, Refused>
         return Err(Refused::Value);
     }
     let i = n - 1;
-    let b = s.get(i / 4).copied().unwrap_or(0);
+    let Some(&b) = s.get(i / 4) else {
+        return Ok(Service::NotAllocated);
+    };
     Ok(said(pair_of(b, i)))
 }
 

@@ -1,2 +1,3 @@
 pub mod Halves
 pub mod Text
+pub mod Bytes

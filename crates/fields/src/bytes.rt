@@ -2,25 +2,33 @@
 ghost use Rattle.std.specs.Prelude.{◌≡◌, ◌+◌, ◌<◌, ◌≤◌, [], ◌∷◌, ◌++◌, length};
 ghost use Rattle.fields.specs.Text.{text};
 
-use crate::text::{lead, place};
+use crate::text::{place, put_text};
 use std::marker::Model;
 
 // Clauses see the bytes that count. Zeros stand after them.
-#[derive(Drop)]
+#[derive(Clone, Copy)]
 pub struct Bytes<const N: usize> {
     bytes: [u8; N],
     count: usize,
 }
 
 impl<const N: usize> Model for Bytes<N> {
-    ghost use Rattle.std.specs.Prelude.{ℕ, ◌≡◌, ◌≤◌, List, take};
+    ghost use Rattle.std.specs.Prelude.{ℕ, List, take, length};
     ghost use Rattle.fields.specs.Text.{padded};
+    ghost use Rattle.fields.specs.Bytes.{Counted, bytes_back, count_back};
 
     ghost Value = { List ℕ };
 
     ghost view = { λ b. take b.count b.bytes };
 
-    ghost invariant = { λ b. (b.count ≤ N) × (b.bytes ≡ padded 0 N (take b.count b.bytes)) };
+    ghost invariant = { λ b. Counted N b.count b.bytes };
+
+    ghost inverse = { λ v. record { bytes = padded 0 N v; count = length v } };
+
+    ghost inverse_ok = { λ b h i. record {
+      bytes = bytes_back N b.count b.bytes h i;
+      count = count_back N b.count b.bytes h i;
+    } };
 }
 
 impl<const N: usize> Bytes<N> {
@@ -39,9 +47,8 @@ impl<const N: usize> Bytes<N> {
         requires { length field.now ≤ N }
         ensures { result ≡ text limit field.now }
     {
-        let count = lead(field, limit);
         let mut bytes = [0; N];
-        place(&field[..count], 0, &mut bytes, 0);
+        let count = put_text(field, limit, &mut bytes);
         Bytes { bytes, count }
     }
 

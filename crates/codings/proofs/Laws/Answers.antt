@@ -63,11 +63,11 @@ module _ {A : Type 0} where
   refusal false valid left v n = refl
 
 -- the paper's numbers tell the answers apart
-refuses : (e : Refused) → ◌≡◌ {A = ℕ} 0 (code e) → ⊥
+pub refuses : (e : Refused) → ◌≡◌ {A = ℕ} 0 (code e) → ⊥
 refuses Length z = omega arith
 refuses Value z = omega arith
 
-codes : (e f : Refused) → code e ≡ code f → e ≡ f
+pub codes : (e f : Refused) → code e ≡ code f → e ≡ f
 codes Length Length z = refl
 codes Length Value z = absurd (omega arith)
 codes Value Length z = absurd (omega arith)

@@ -5,18 +5,14 @@ use mathlib.Core.List.{List, ◌++◌, append_assoc}
 use native.Mathlib.Omega.{arith}
 use lib.ListN.{length, take, replicate, length-append, length-replicate}
 use lib.Seq.{length-take-le}
-use Rattle.fields.specs.Text.{lead, padded, placed, text}
-use Rattle.fields.proofs.Laws.Text.{lead_le, text_length, counts, places, taken}
-
--- n bytes, of which so many count
-abbrev pub Counted : ℕ → ℕ → List ℕ → Type 0
-Counted n count b = (count ≤ n) × (b ≡ padded 0 n (take count b))
+use Rattle.fields.specs.Bytes.{Counted, count_back}
+use Rattle.fields.specs.Text.{padded, placed, text}
+use Rattle.fields.proofs.Laws.Text.{lead_le, text_length, taken}
 
 -- Where the bytes that count are equal, all bytes are, and the counts.
-pub one : (n : ℕ) (b b' : List ℕ) (c c' : ℕ) → length b ≡ n → length b' ≡ n → Counted n c b → Counted n c' b' → take c b ≡ take c' b'
-    → (b ≡ b') × (c ≡ c')
-one n b b' c c' l l' h h' e =
-    (h.1 ∙ ap (λ (t : List ℕ). padded 0 n t) e ∙ sym h'.1, sym (length-take-le c b (omega (arith, h.0, l))) ∙ ap (λ (t : List ℕ). length t) e ∙ length-take-le c' b' (omega (arith, h'.0, l')))
+pub one : (n : ℕ) (b b' : List ℕ) (c c' : ℕ) → Counted n c b → Counted n c' b' → take c b ≡ take c' b' → (b ≡ b') × (c ≡ c')
+one n b b' c c' h h' e =
+    (h.1 ∙ ap (λ (t : List ℕ). padded 0 n t) e ∙ sym h'.1, sym (count_back n c b h) ∙ ap (λ (t : List ℕ). length t) e ∙ count_back n c' b' h')
 
 pub none : (n : ℕ) → Counted n 0 (replicate n 0)
 unfolding padded
@@ -30,19 +26,20 @@ module _ (n : ℕ) (t b : List ℕ) (h : length t ≤ n) (e : b ≡ padded 0 n t
   pub counted : Counted n (length t) b
   counted = (h, e ∙ ap (λ (l : List ℕ). padded 0 n l) (sym text_of))
 
--- the text of a field, of which k bytes lead
-module _ (n limit k : ℕ) (l w : List ℕ) (ek : k ≡ lead limit l) (h : length l ≤ n) (e : w ≡ placed 0 0 (replicate n 0) (take k l)) where
+-- the text of a field, of k bytes, in n zeros
+module _ (n limit k : ℕ) (l w : List ℕ) (ek : k ≡ length (text limit l)) (h : length l ≤ n)
+    (e : w ≡ padded 0 (length {A = ℕ} (replicate n 0)) (text limit l)) where
   filled_up : w ≡ padded 0 n (text limit l)
-  filled_up = places limit l k ek (replicate n 0) w e ∙ ap (λ (m : ℕ). padded 0 m (text limit l)) (length-replicate n 0)
+  filled_up = e ∙ ap (λ (m : ℕ). padded 0 m (text limit l)) (length-replicate n 0)
 
   fits : length (text limit l) ≤ n
   fits = omega (arith, text_length limit 0 l, lead_le limit l)
 
   pub text_counts : Counted n k w
-  text_counts = rw (counts limit l k ek) (counted n (text limit l) w fits filled_up)
+  text_counts = rw ek (counted n (text limit l) w fits filled_up)
 
   pub is_text : take k w ≡ text limit l
-  is_text = rw (counts limit l k ek) (text_of n (text limit l) w fits filled_up)
+  is_text = rw ek (text_of n (text limit l) w fits filled_up)
 
 -- more bytes after those that count
 module _ (n count : ℕ) (b now more w : List ℕ) (long : length b ≡ n) (c : count ≤ n) (is : take count b ≡ now)
