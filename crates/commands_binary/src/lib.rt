@@ -11,7 +11,7 @@ ghost use Rattle.commands.specs.Gives.{Gives, Writes};
 use access::shared;
 use card::{Act, Entry, Refused, Rights, Session};
 use commands::answers::{Reply, refusal, silent};
-use parts::{lay, put};
+use parts::{lay, put, wide_word};
 use sessions::dropped;
 
 // The first refusal of n bytes from a place on.
@@ -21,7 +21,7 @@ fn binary(r: Rights, e: Entry, a: Act, at: usize, n: usize) -> Result<(), Refuse
     ensures within { OnOk result (at + n ≤ e.size) }
 {
     shared(r, e, a, e.structure == 0)?;
-    let size = usize::from(e.size);
+    let size = wide_word(e.size);
     if size < n || size - n < at {
         return Err(Refused::OutOfRange);
     }

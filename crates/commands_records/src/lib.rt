@@ -16,7 +16,7 @@ use access::shared;
 use card::{Act, Entry, Refused, Rights, Session};
 use commands::answers::{Reply, refusal, silent};
 use entries::records;
-use parts::{lay, put};
+use parts::{lay, put, wide};
 use sessions::{dropped, points};
 
 // A reply, and the file's top afterwards.
@@ -84,9 +84,9 @@ pub fn record_at(e: Entry, k: usize) -> usize
     ensures { (result ≡ record_at e k) × (result + e.width ≤ e.size) }
 {
     let n = records(e);
-    let place = usize::from(e.top) + k - 1;
+    let place = wide(e.top) + k - 1;
     let round = if place < n { place } else { place - n };
-    round * usize::from(e.width)
+    round * wide(e.width)
 }
 
 // The first refusal of a record with n bytes, and else the record's number: it counts from 1.
@@ -103,7 +103,7 @@ fn of_record(
     ensures fitting { IfOk result (λ x. (x ≡ unwrap_or k 0) × Fitting e suits x n) }
 {
     shared(r, e, a, suits)?;
-    if n != usize::from(e.width) {
+    if n != wide(e.width) {
         return Err(Refused::Length(e.width));
     }
     k.filter(|&k| k != 0).ok_or(Refused::OutOfRange)
@@ -154,7 +154,7 @@ pub fn push(e: Entry, b: &mut [u8], new: &[u8]) -> u8
 {
     let n = records(e);
     put(b, record_at(e, n), new);
-    ((usize::from(e.top) + n - 1) % n) as u8
+    ((wide(e.top) + n - 1) % n) as u8
 }
 
 // UPDATE RECORD. Only this player's crates call it.

@@ -7,7 +7,7 @@ ghost use Rattle.commands.specs.Gives.{brief, Gives};
 
 use card::{Refused, Session};
 use commands::answers::{Reply, refusal, silent};
-use parts::lay;
+use parts::{lay, low};
 use sessions::{dropped, enters, waits_padded};
 
 // What waits is told, as many bytes as are asked; 67 leaves it. Only this player's crates call it.
@@ -56,5 +56,8 @@ pub fn selected(
     ensures { (l : List ℕ) → length l ≡ n → told.now ≡ l ++ replicate (22 - n) 0
         → result ≡ brief (reply [] (0x9f00 + n) (waits l (enters d c p s))) }
 {
-    silent(waits_padded(told, n, enters(d, c, p, s)), 0x9f00 + n as u16)
+    silent(
+        waits_padded(told, n, enters(d, c, p, s)),
+        0x9f00 + low(n as u8),
+    )
 }

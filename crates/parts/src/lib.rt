@@ -5,8 +5,7 @@ ghost use Rattle.std.specs.Prelude.{◌≡◌, ◌+◌, ◌≤◌, ◌<◌, leng
 ghost use Rattle.card.specs.Bytes.{part, splice};
 ghost use Rattle.card.specs.Answers.{laid};
 
-// A byte as a number that sums and products take. This and the next two do what the library's `from` does: they stay since they are promised
-// by their names (docs/PROMISES.md).
+// A byte as a number that sums and products take.
 pub fn wide(b: u8) -> usize
     ensures { (result ≡ b) × (result < 256) }
 {

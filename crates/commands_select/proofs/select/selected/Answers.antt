@@ -10,4 +10,4 @@ use Rattle.commands_select.proofs.select.selected.Goals as goal
 
 pub returns : goal.returns
 returns c l k q = let n = c.args.n in
-    c.silent.ensures ∙ ap (λ (s : Session). brief (reply [] (0x9f00 + n) s)) (c.waits_padded.ensures l k q ∙ ap (waits l) c.enters.ensures)
+    (rw c.low.ensures.0 at c.silent.ensures) ∙ ap (λ (s : Session). brief (reply [] (0x9f00 + n) s)) (c.waits_padded.ensures l k q ∙ ap (waits l) c.enters.ensures)
